@@ -15,7 +15,11 @@ use Rattle.cose_gate.specs.GateFault.TheVariants as gating
 use Rattle.cose_gate.specs.Items.{SequenceWithin}
 use Rattle.cose_gate.specs.KeyFields.{KeyFields}
 use Rattle.cose_gate.specs.Outcome.{Rules, Sight, Whole, Outcome, Answers}
-use Rattle.cose_gate.specs.Program.{Devices, RanOver, RanJudged, EndsWithin, EndsOver, no_file, not_hex, no_keys, no_memory, after_run}
+use Rattle.cose_gate.specs.Notice.{Notice}
+use Rattle.cose_gate.specs.Program.{Devices, Ending, finished, unreadable, no_memory, within, asking as asks, writing, noting, Shows, result_of}
+use Rattle.cose_gate.specs.Telling.{last_of, status_at, RanTold, EndsTold, not_begun, after_run}
+use Rattle.cose_gate_program.proofs.Tellings.{ran_as}
+use Rattle.callers.proofs.Ended.{ran_status, not_few}
 use Rattle.cose_gate.specs.Questions.{Question}
 use Rattle.cose_gate.specs.Reading.{IfKnown}
 use Rattle.cose_gate.specs.Records.{record_of, is_among}
@@ -132,31 +136,10 @@ pub passed_of : (accepted aad input output : List ℕ) (keys : List (List ℕ)) 
 passed_of accepted aad input output keys counts are p = (keys, are, p)
 
 -- a judge by key ids was told so of the run
-pub ran_by_ids : (limits : Bounds) (ids : List (List ℕ)) (aad : List ℕ) (old new : Devices)
-    (asked asked' : List (List ℕ)) (status : ℕ)
-    → RanJudged limits (record { allows = allows ids; decided = decided; before = asked; after = asked' })
-    aad old new status
-    → RanByIds limits ids aad old new asked asked' status
-ran_by_ids limits ids aad old new asked asked' status r = record {
-  on = r.on;
-  front = r.heard.told.front;
-  is_front = r.heard.told.is_front;
-  told = r.heard.told.tells ∙ told_all asked r.heard.told.front;
-  all = r.heard.all;
-}
-
--- the statuses of a run
-below_two : (b : Bool) (n : ℕ) → n ≡ cond {A = ℕ} b 0 1 → n < 2
-below_two true n e = let h : n ≡ 0 = e in omega arith
-below_two false n e = let h : n ≡ 1 = e in omega arith
-
-over_status : (limits : Bounds) (says : Question → Bool) (aad : List ℕ) (old new : Devices)
-    (b : List ℕ) (steps : List Step) (status : ℕ)
-    → RanOver limits says aad old new b steps status → (status < 2) ⊎ (status ≡ 4)
-over_status limits says aad old new b steps status r = elim r [
-  | inl t ↦ inl (below_two (nat_eq t.0 0) status t.2)
-  | inr p ↦ inr p.1
-]
+pub ran_by_ids : (ids : List (List ℕ)) {limits : Bounds} {aad : List ℕ} {old new : Devices} {ids_told ids_told' : List (List ℕ)} {status : ℕ} {Told : List Notice → Type 0}
+    → RanTold limits (allows ids) aad old new status (λ qs. ids_told' ≡ folded_over decided ids_told qs) Told
+    → RanByIds limits ids aad old new ids_told ids_told' status
+ran_by_ids ids {ids_told = ids_told} r = ran_as r (λ qs e. e ∙ told_all ids_told qs) (λ ns last told. tt)
 
 between : (n : ℕ) → 1 < n → n < 4 → (n < 2) ⊎ (n ≡ 4) → ⊥
 between n more less s = elim s [
@@ -165,16 +148,10 @@ between n more less s = elim s [
 ]
 
 -- with the statuses 2 and 3 it was not run
-pub untouched : (limits : Bounds) (says : List KeyFields → Question → Bool)
-    (keys aad : Option (List ℕ)) (old new : Devices) (status : ℕ)
-    → EndsWithin limits says keys aad old new status → 1 < status → status < 4 → new ≡ old
-untouched limits says keys aad old new status (no_file k s same) more less = same
-untouched limits says keys aad old new status (not_hex b k a s same) more less = same
-untouched limits says keys aad old new status (no_keys b d k a e w s same) more less = same
-untouched limits says keys aad old new status (no_memory b k s same) more less = same
-untouched limits says keys aad old new status (after_run b d k a ks has r) more less =
-    absurd (between status more less
-    (over_status limits (says ks) d old new r.ran.input r.ran.steps status r.ran.over))
+pub untouched : {limits : Bounds} {says : List KeyFields → Question → Bool} {keys aad : Option (List ℕ)} {old new : Devices} {status : ℕ} {Told : List Notice → Type 0}
+    → EndsTold limits says keys aad old new status Told → 1 < status → status < 4 → new ≡ old
+untouched (not_begun why n s same told) more less = same
+untouched {status = status} (after_run b d k a ks has r) more less = absurd (between status more less (ran_status r))
 
 -- if none is refused each passes
 all_pass : (p : Bool) (n : ℕ) → cond {A = ℕ} (not p) 1 0 + n ≡ 0 → (p ≡ true) × (n ≡ 0)
@@ -209,32 +186,27 @@ module _ (limits : Bounds) (says : Question → Bool) (aad : List ℕ) (exact : 
 none_of : (n : ℕ) → 0 ≡ cond {A = ℕ} (nat_eq n 0) 0 1 → n ≡ 0
 none_of n e = grind (arith, nat_tests, e)
 
-all_written : (limits : Bounds) (says : Question → Bool) (aad : List ℕ) (old new : Devices)
-    (b : List ℕ) (steps : List Step) (status : ℕ) → ExcludesInexact limits
-    → RanOver limits says aad old new b steps status → status ≡ 0 → Appends old.written new.written b
-all_written limits says aad old new b steps status exact over none = elim over [
-  | inl t ↦ (
-      let count : t.0 ≡ 0 = none_of t.0 (sym none ∙ t.2) in
-      let e : output_of says aad steps ≡ b
-      = all_received limits says aad exact 1 steps 0 b t.1.course.steps t.1.course.sequence (sym t.1.refused_is ∙ count) in
-      subst (λ (z : List ℕ). Appends old.written new.written z) e t.1.writes
-      )
-  | inr p ↦ absurd (let k : ⊥ = omega (arith, none, p.1) in k)
-]
+all_written : (limits : Bounds) (says : Question → Bool) (aad : List ℕ) (old new : Devices) (done : List Step) (g : Ending) (rest : List ℕ) (flushed : Bool) → ExcludesInexact limits
+    → (s : Shows limits says aad old new (record { done = done; ending = g; rest = rest }) flushed)
+    → 0 ≡ status_at (last_of (result_of says aad (record { done = done; ending = g; rest = rest })) flushed) → Appends old.written new.written s.input
+all_written limits says aad old new done finished rest true exact s none =
+    let count : refused_count says aad (done ++ []) ≡ 0 = ap (refused_count says aad) (append-nil done) ∙ none_of (refused_count says aad done) none in
+    let e : output_of says aad (done ++ []) ≡ s.input
+    = all_received limits says aad exact 1 (done ++ []) 0 s.input s.course.steps
+    (subst (λ (z : List ℕ). SequenceWithin limits.nesting 0 s.input (map (λ s. s.item) (done ++ [])) z) s.ends s.course.sequence) count in
+    subst (λ (z : List ℕ). Appends old.written new.written z) (append-nil (output_of says aad done) ∙ (sym (ap (output_of says aad) (append-nil done)) ∙ e)) s.written
+all_written limits says aad old new done finished rest false exact s none = absurd (let k : ⊥ = omega (arith, none) in k)
+all_written limits says aad old new done (unreadable e taken) rest flushed exact s none = absurd (let k : ⊥ = omega (arith, none) in k)
+all_written limits says aad old new done (no_memory taken) rest flushed exact s none = absurd (let k : ⊥ = omega (arith, none) in k)
+all_written limits says aad old new done (within next (asks asked)) rest flushed exact s none = absurd (let k : ⊥ = omega (arith, none) in k)
+all_written limits says aad old new done (within next (writing part)) rest flushed exact s none = absurd (let k : ⊥ = omega (arith, none) in k)
+all_written limits says aad old new done (within next noting) rest flushed exact s none = absurd (let k : ⊥ = omega (arith, none) in k)
 
 -- with the status 0 a strict run wrote all that it read
-pub handed_on : (limits : Bounds) (says : List KeyFields → Question → Bool) (keys aad : List ℕ)
-    (old new : Devices) (status : ℕ) → ExcludesInexact limits
-    → EndsOver limits says keys aad old new status → status ≡ 0 → IsHandedOn old new
-handed_on limits says keys aad old new status exact e none input is = elim e [
-  | inl k ↦ absurd (let n : ⊥ = omega (arith, none, k.2) in n)
-  | inr m ↦ elim m [
-    | inl n ↦ absurd (let k : ⊥ = omega (arith, none, n.0) in k)
-    | inr r ↦ (
-        let same : input ≡ r.2.ran.input
-        = subst (λ (l : Option (List ℕ)). IfKnown l (λ b. b ≡ r.2.ran.input)) is r.2.ran.is in
-        subst (λ (z : List ℕ). Appends old.written new.written z) (sym same)
-        (all_written limits (says r.0) aad old new r.2.ran.input r.2.ran.steps status exact r.2.ran.over none)
-        )
-  ]
-]
+pub handed_on : {limits : Bounds} {says : List KeyFields → Question → Bool} {keys aad : List ℕ} {old new : Devices} {status : ℕ} {Told : List Notice → Type 0} → ExcludesInexact limits
+    → EndsTold limits says (Some keys) (Some aad) old new status Told → status ≡ 0 → IsHandedOn old new
+handed_on {status = status} exact (not_begun why n st same told) none input is = absurd (not_few why status st (omega (arith, none)))
+handed_on {limits = limits} {says = says} {old = old} {new = new} exact (after_run b d k a ks has r) none input is =
+    let same : input ≡ r.shows.input = subst (λ (l : Option (List ℕ)). IfKnown l (λ b. b ≡ r.shows.input)) is r.shows.is in
+    subst (λ (z : List ℕ). Appends old.written new.written z) (sym same)
+    (all_written limits (says ks) d old new r.run.done r.run.ending r.run.rest r.flushed exact r.shows (sym none ∙ r.status_is))

@@ -7,7 +7,8 @@ use Rattle.cose_gate.specs.Items.{nesting}
 use Rattle.cose_gate.specs.Questions.{Question, MessageFields, all_questions}
 use Rattle.cose_gate.specs.Stated.{Stated}
 use Rattle.cose_gate.specs.Tree.{Tree}
-use Rattle.cose_gate.specs.Program.{Devices, Ends}
+use Rattle.cose_gate.specs.Program.{Devices}
+use Rattle.callers.specs.Asking.{EndsWithin}
 
 -- the bytes are one message, it has one question, and the answer is the one to that question
 pub record IsAnswered (allows : Question → Bool) (aad : List ℕ) (yes : Bool)
@@ -36,14 +37,14 @@ pub record IsFedInFew (room : ℕ) (lengths b : List ℕ) : Type 0 where
 abbrev pub EndsBy : Option (List ℕ × Option (List ℕ)) → Option (List ℕ) → Devices → Devices → ℕ
     → Type 0
 EndsBy None keys old new status = (status ≡ 2) × (new ≡ old)
-EndsBy (Some w) keys old new status = Ends says_yes keys w.1 old new status
+EndsBy (Some w) keys old new status = EndsWithin usual says_yes keys w.1 old new status
 
 -- the program ended so over these bytes, if they are known, with these keys and no external data;
 -- its reader had not failed before
 pub record EndsOver (left : Option (List ℕ)) (keys : List ℕ) (written written' : Option (List ℕ))
     (failures failures' status : ℕ) : Type 0 where
   pub new : Devices
-  pub ends : Ends says_yes (Some keys) None (record {
+  pub ends : EndsWithin usual says_yes (Some keys) None (record {
     left = left;
     written = written;
     read_failures = 0;

@@ -4,12 +4,12 @@
 ghost use Rattle.std.specs.Prelude.{◌≡◌, ◌<◌, true, IfOk, IfErr, MatchOption, option_copied, codes};
 ghost use Rattle.std.specs.Io.KnownBytes.{Appends};
 ghost use Rattle.cose_gate.specs.HmacJudges.{says_yes};
-ghost use Rattle.cose_gate.specs.Program.{devices_of, EndsOver, EndsWithin};
+ghost use Rattle.cose_gate.specs.Program.{devices_of};
 ghost use Rattle.cose_gate.specs.Records.{is_among};
 ghost use Rattle.cose_gate.specs.RecordsKept.{keys_of, told_by};
 ghost use Rattle.cose_gate.specs.Terms.{limits_by};
 ghost use Rattle.callers.specs.Asking.{IsAsked, IsAskedInPart, AreNoRecords, IsPassed, IsPassedBy};
-ghost use Rattle.callers.specs.Asking.{RanByIds, EndsAccepted, IsHandedOn};
+ghost use Rattle.callers.specs.Asking.{RanByIds, EndsAccepted, EndsOver, EndsWithin, IsHandedOn};
 ghost use Rattle.callers.specs.Reported.{EndsWithCounts, NamesWrongKeys};
 ghost use Rattle.callers.specs.Sides.{known_of, asked_of};
 

@@ -7,7 +7,6 @@
 ghost use Rattle.std.specs.Prelude.{map, option_copied, string_bytes};
 ghost use Rattle.cose_gate_command.specs.Arguments as spec;
 ghost use Rattle.cose_gate_command.specs.Ends.{EndsBy};
-ghost use Rattle.cose_gate_command.specs.Telling.{Lines};
 ghost use Rattle.cose_gate_program.specs.Program.{devices_of};
 
 use ciborium_ll::{Read, Write};
@@ -106,10 +105,7 @@ fn run<R: Read, W: Write, E: Write>(
     out: &mut W,
     err: &mut E,
 ) -> u8
-    ensures ran { EndsBy (spec.arguments (map string_bytes all.now)) (option_copied keys.entry)
-        (devices_of R.Read W.Write input.old out.old)
-        (devices_of R.Read W.Write input.new out.new) result }
-    ensures lines { Lines E.Write (spec.arguments (map string_bytes all.now))
+    ensures { EndsBy E.Write (spec.arguments (map string_bytes all.now))
         (option_copied keys.entry)
         (devices_of R.Read W.Write input.old out.old)
         (devices_of R.Read W.Write input.new out.new) result err.old err.new }

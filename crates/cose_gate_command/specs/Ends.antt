@@ -1,8 +1,12 @@
 -- How the program ends by its arguments.
-use Rattle.std.specs.Prelude.{◌≡◌, ℕ, List, Option, None, Some, Bool}
+use Rattle.std.specs.Prelude.{◌≡◌, ℕ, List, Option, None, Some, Bool, false, codes}
+use Rattle.ciborium_ll.specs.declared.write.Write.{Ghosts as Writes}
 use Rattle.cose_gate_core.specs.Findings.{Bounds, excluded_by}
+use Rattle.cose_gate_program.specs.Beginning.{aad_of}
 use Rattle.cose_gate_program.specs.Judge.{says_yes}
-use Rattle.cose_gate_program.specs.Program.{Devices, EndsWithin}
+use Rattle.cose_gate_program.specs.Program.{Devices}
+use Rattle.cose_gate_program.specs.Telling.{EndsTold, writes}
+use Rattle.cose_gate_program.specs.Writing.{Wrote}
 use Rattle.coset_labels.specs.Limits.{nesting, layers}
 use Rattle.cose_gate_command.specs.Arguments.{Arguments}
 
@@ -14,9 +18,13 @@ bounds_by strict = record {
   excludes = λ bytes m. excluded_by strict bytes m;
 }
 
--- the arguments say how the program is run, verbose or not, over what KEYS holds; without them its
--- status is that of wrong arguments, and nothing was read or written
-abbrev pub EndsBy : Option Arguments → Option (List ℕ) → Devices → Devices → ℕ → Type 0
-EndsBy None keys old new status = (status ≡ 2) × (new ≡ old)
-EndsBy (Some a) keys old new status =
-    EndsWithin (bounds_by a.strict) says_yes keys a.aad old new status
+-- the arguments say how the program is run over what KEYS holds, and unless it is verbose the lines
+-- are those of the run; without them its status is that of wrong arguments, the line is the usage,
+-- and nothing was read or written
+abbrev pub EndsBy : {W F : Type 0} (w : Writes W F) → Option Arguments → Option (List ℕ)
+    → Devices → Devices → ℕ → W → W → Type 0
+EndsBy w None keys old new status err err' = (status ≡ 2) × (new ≡ old) × Wrote w err err'
+    (codes "usage: cose-gate [--strict] [--verbose] KEYS [AADHEX] < INPUT > PASSED\n")
+EndsBy w (Some a) keys old new status err err' =
+    EndsTold (bounds_by a.strict) says_yes keys (aad_of a.aad) old new status
+    (λ notices. a.verbose ≡ false → writes w err err' notices)

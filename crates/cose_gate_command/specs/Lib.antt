@@ -2,4 +2,3 @@ pub mod Arguments
 pub mod Ends
 pub mod Options
 pub mod Saying
-pub mod Telling

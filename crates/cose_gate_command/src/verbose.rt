@@ -1,8 +1,9 @@
 //! The run, with `--verbose` or without.
 ghost use Rattle.std.specs.Prelude.{◌≡◌, false, option_copied};
 ghost use Rattle.cose_gate_core.specs.Terms.{limits_of};
+ghost use Rattle.cose_gate_program.specs.Beginning.{aad_of};
 ghost use Rattle.cose_gate_program.specs.Judge.{says_yes};
-ghost use Rattle.cose_gate_program.specs.Program.{devices_of, EndsWithin};
+ghost use Rattle.cose_gate_program.specs.Program.{devices_of};
 ghost use Rattle.cose_gate_program.specs.Telling.{EndsTold, writes};
 
 use crate::counted::Counted;
@@ -48,15 +49,11 @@ pub(crate) fn run_asked<'f, 'd, R: Read, W: Write, E: Write>(
     out: &mut W,
     err: &mut E,
 ) -> u8
-    ensures ran { EndsWithin (limits_of terms) says_yes
-        (option_copied file.entry.bytes) (option_copied aad.entry)
-        (devices_of R.Read W.Write input.old out.old)
-        (devices_of R.Read W.Write input.new out.new) result }
-    ensures lines { verbose ≡ false → EndsTold (limits_of terms) says_yes
-        (option_copied file.entry.bytes) (option_copied aad.entry)
+    ensures ran { EndsTold (limits_of terms) says_yes (option_copied file.entry.bytes)
+        (aad_of (option_copied aad.entry))
         (devices_of R.Read W.Write input.old out.old)
         (devices_of R.Read W.Write input.new out.new) result
-        (writes E.Write err.old err.new) }
+        (λ notices. verbose ≡ false → writes E.Write err.old err.new notices) }
     ensures kept { R.handle input.new ≡ R.handle input.old }
     ensures lent { W.handle out.new ≡ W.handle out.old }
 {

@@ -11,14 +11,14 @@ use Rattle.cose_gate_program.specs.declared.beginning.NotBegun.{NotBegun}
 use Rattle.cose_gate_program.specs.declared.beginning.NotBegun.TheVariants.{NoFile, NotHex, NoKeys, Memory}
 
 -- AADHEX is no hex
-pub by_aad : (keys aad : Option (List ℕ)) (b : List ℕ) (why : NotBegun) → keys ≡ Some b → IsNoAad aad why → BeginsNot keys aad why
+pub by_aad : (keys aad : Option (List ℕ)) (b : List ℕ) (why : NotBegun) → keys ≡ Some b → IsNoAad aad why → BeginsNot keys (aad_of aad) why
 by_aad keys aad b NoFile k n = absurd n
 by_aad keys aad b NotHex k n = (b, k, n)
 by_aad keys aad b (NoKeys e) k n = absurd n
 by_aad keys aad b Memory k n = (b, k)
 
 -- KEYS holds no key set
-pub by_keys : (keys aad : Option (List ℕ)) (b d : List ℕ) (why : NotBegun) → keys ≡ Some b → aad_of aad ≡ Some d → IsNoKeySet b why → BeginsNot keys aad why
+pub by_keys : (keys aad : Option (List ℕ)) (b d : List ℕ) (why : NotBegun) → keys ≡ Some b → aad ≡ Some d → IsNoKeySet b why → BeginsNot keys aad why
 by_keys keys aad b d NoFile k a n = absurd n
 by_keys keys aad b d NotHex k a n = absurd n
 by_keys keys aad b d (NoKeys e) k a n = (b, d, k, a, n)

@@ -51,18 +51,19 @@ IsNoKeySet b NotHex = ⊥
 IsNoKeySet b (NoKeys e) = WrongItem WrongKeySet b (fault_of e)
 IsNoKeySet b Memory = Unit {0}
 
--- KEYS is tested before AADHEX, and AADHEX before what KEYS holds
+-- why a run doesn't begin with what KEYS holds and the external data, if there are any: KEYS is
+-- tested before AADHEX, and AADHEX before what KEYS holds
 abbrev pub BeginsNot : Option (List ℕ) → Option (List ℕ) → NotBegun → Type 0
 BeginsNot keys aad NoFile = keys ≡ None
-BeginsNot keys aad NotHex = (b : List ℕ) × (keys ≡ Some b) × (aad_of aad ≡ None)
+BeginsNot keys aad NotHex = (b : List ℕ) × (keys ≡ Some b) × (aad ≡ None)
 BeginsNot keys aad (NoKeys e) =
-    (b : List ℕ) × (d : List ℕ) × (keys ≡ Some b) × (aad_of aad ≡ Some d)
+    (b : List ℕ) × (d : List ℕ) × (keys ≡ Some b) × (aad ≡ Some d)
     × WrongItem WrongKeySet b (fault_of e)
 BeginsNot keys aad Memory = (b : List ℕ) × (keys ≡ Some b)
 
--- the key set that KEYS holds, and the external data that AADHEX stands for
+-- the key set that KEYS holds, and the external data
 abbrev pub Begins : Option (List ℕ) → Option (List ℕ) → Result Beginning NotBegun → Type 0
 Begins keys aad (Ok d) =
-    (b : List ℕ) × (keys ≡ Some b) × (aad_of aad ≡ Some d.aad.items)
+    (b : List ℕ) × (keys ≡ Some b) × (aad ≡ Some d.aad.items)
     × HasItem HasKeySet b (key_set_view d.keys)
 Begins keys aad (Err why) = BeginsNot keys aad why

@@ -78,7 +78,7 @@ impl From<CoseError> for NotBegun {
 /// `NoFile` if there are no bytes; `NotHex`; `NoKeys` if they are not a key set (RFC 9052, section
 /// 7); `Memory`. They are tested in this order.
 pub fn begin(alloc: Global, keys: Option<&[u8]>, aad: Option<&str>) -> Result<Beginning, NotBegun>
-    ensures { Begins (option_copied keys.entry) (option_copied aad.entry) result }
+    ensures { Begins (option_copied keys.entry) (aad_of (option_copied aad.entry)) result }
 {
     match keys {
         Some(bytes) => {

@@ -1,13 +1,12 @@
 //! The program: the gate over one input, a line for each item, and one that says how it ended.
-ghost use Rattle.std.specs.Prelude.{◌≡◌, ◌≤◌, ◌+◌, [], Some, IsOk, OnOk, option_copied};
-ghost use Rattle.cose_gate_core.specs.Outcome.{writer_failures};
-ghost use Rattle.cose_gate_core.specs.Terms.{limits_of};
-ghost use Rattle.cose_gate_program.specs.Judge.{says_yes};
+ghost use Rattle.std.specs.Prelude.{◌≡◌, Some, option_copied};
 ghost use Rattle.cose_gate_core.specs.Findings.{usual};
-ghost use Rattle.cose_gate_program.specs.Program.{devices_of, hearing_of, RanJudged};
-ghost use Rattle.cose_gate_program.specs.Program.{Ends, EndsWithin, EndsOver};
-ghost use Rattle.cose_gate_program.specs.Telling.{GatedTold, RanTold, OverTold, EndsTold};
-ghost use Rattle.cose_gate_program.specs.Telling.{tells, writes};
+ghost use Rattle.cose_gate_core.specs.Terms.{limits_of};
+ghost use Rattle.cose_gate_program.specs.Beginning.{aad_of};
+ghost use Rattle.cose_gate_program.specs.Judge.{says_yes};
+ghost use Rattle.cose_gate_program.specs.Program.{devices_of, hears};
+ghost use Rattle.cose_gate_program.specs.Telling as spec;
+ghost use Rattle.cose_gate_program.specs.Telling.{Gated, RanTold, EndsTold, tells, writes};
 
 use crate::beginning::{begin, read_keys};
 use crate::devices::{Input, InputFault, Output};
@@ -29,17 +28,10 @@ fn gate_told<R: Read, W: Write, T: Teller, J: Judge>(
     teller: &mut T,
     judge: &mut J,
 ) -> Result<Counts, GateFault<InputFault>>
-    ensures ran { GatedTold (limits_of terms)
-        (hearing_of J.Judge judge.old judge.new) aad.now
+    ensures ran { Gated (limits_of terms) (J.yes (J.who judge.old)) aad.now
         (devices_of R.Read W.Write input.old out.old)
         (devices_of R.Read W.Write input.new out.new) result
-        (tells T.Teller teller.old teller.new) }
-    ensures nothing { R.left input.old ≡ Some [] → R.failed input.new ≡ R.failed input.old
-        → IsOk result }
-    ensures reader { OnOk result (R.failed input.new ≡ R.failed input.old) }
-    ensures writer { OnOk result (W.failed out.new ≡ W.failed out.old) }
-    ensures more { W.failed out.old ≤ W.failed out.new }
-    ensures failures { W.failed out.new ≡ W.failed out.old + writer_failures result }
+        (hears J.Judge judge.old judge.new) (tells T.Teller teller.old teller.new) }
     ensures who { J.who judge.new ≡ J.who judge.old }
     ensures kept { R.handle input.new ≡ R.handle input.old }
     ensures lent { W.handle out.new ≡ W.handle out.old }
@@ -75,15 +67,10 @@ pub fn run_judged<R: Read, W: Write, E: Write, J: Judge>(
     err: &mut E,
     judge: &mut J,
 ) -> u8
-    ensures ran { RanJudged (limits_of terms)
-        (hearing_of J.Judge judge.old judge.new) aad.now
-        (devices_of R.Read W.Write input.old out.old)
-        (devices_of R.Read W.Write input.new out.new) result }
-    ensures lines { RanTold (limits_of terms)
-        (hearing_of J.Judge judge.old judge.new) aad.now
+    ensures ran { RanTold (limits_of terms) (J.yes (J.who judge.old)) aad.now
         (devices_of R.Read W.Write input.old out.old)
         (devices_of R.Read W.Write input.new out.new) result
-        (writes E.Write err.old err.new) }
+        (hears J.Judge judge.old judge.new) (writes E.Write err.old err.new) }
     ensures who { J.who judge.new ≡ J.who judge.old }
     ensures kept { R.handle input.new ≡ R.handle input.old }
     ensures lent { W.handle out.new ≡ W.handle out.old }
@@ -103,33 +90,40 @@ pub fn run_told<R: Read, W: Write, T: Teller, J: Judge>(
     teller: &mut T,
     judge: &mut J,
 ) -> u8
-    ensures ran { RanJudged (limits_of terms)
-        (hearing_of J.Judge judge.old judge.new) aad.now
-        (devices_of R.Read W.Write input.old out.old)
-        (devices_of R.Read W.Write input.new out.new) result }
-    ensures told { RanTold (limits_of terms)
-        (hearing_of J.Judge judge.old judge.new) aad.now
+    ensures ran { RanTold (limits_of terms) (J.yes (J.who judge.old)) aad.now
         (devices_of R.Read W.Write input.old out.old)
         (devices_of R.Read W.Write input.new out.new) result
-        (tells T.Teller teller.old teller.new) }
+        (hears J.Judge judge.old judge.new) (tells T.Teller teller.old teller.new) }
     ensures who { J.who judge.new ≡ J.who judge.old }
     ensures kept { R.handle input.new ≡ R.handle input.old }
     ensures lent { W.handle out.new ≡ W.handle out.old }
 {
     let gated = gate_told(alloc, terms, aad, input, out, teller, judge);
-    if out.flush().is_err() {
-        teller.tell(&Notice::Stopped(GateFault::Write));
-        return 4;
-    }
+    let last = last_of(gated, out.flush().is_ok());
+    teller.tell(&last);
+    status_after(&last)
+}
+
+/// What is told last of a run, by the gate's result, and whether the output was flushed.
+fn last_of(gated: Result<Counts, GateFault<InputFault>>, flushed: bool) -> Notice
+    ensures { result ≡ spec.last_of gated flushed }
+{
     match gated {
-        Ok(counts) => {
-            teller.tell(&Notice::Counts(counts));
-            if counts.refused == 0 { 0 } else { 1 }
-        }
-        Err(fault) => {
-            teller.tell(&Notice::Stopped(fault));
-            4
-        }
+        Ok(counts) if flushed => Notice::Counts(counts),
+        Ok(_) => Notice::Stopped(GateFault::Write),
+        Err(fault) => Notice::Stopped(if flushed { fault } else { GateFault::Write }),
+    }
+}
+
+/// The status of the program if this is told last.
+fn status_after(last: &Notice) -> u8
+    ensures { result ≡ spec.status_at last.now }
+{
+    match last {
+        Notice::Counts(counts) if counts.refused == 0 => 0,
+        Notice::Counts(_) => 1,
+        Notice::NotBegun(why) => why.status(),
+        Notice::Item(_) | Notice::Stopped(_) => 4,
     }
 }
 
@@ -145,10 +139,7 @@ pub fn run_over<R: Read, W: Write, E: Write>(
     out: &mut W,
     err: &mut E,
 ) -> u8
-    ensures ran { EndsOver (limits_of terms) says_yes keys.now aad.now
-        (devices_of R.Read W.Write input.old out.old)
-        (devices_of R.Read W.Write input.new out.new) result }
-    ensures lines { OverTold (limits_of terms) says_yes keys.now aad.now
+    ensures ran { EndsTold (limits_of terms) says_yes (Some keys.now) (Some aad.now)
         (devices_of R.Read W.Write input.old out.old)
         (devices_of R.Read W.Write input.new out.new) result
         (writes E.Write err.old err.new) }
@@ -170,10 +161,7 @@ pub fn run_over_told<R: Read, W: Write, T: Teller>(
     out: &mut W,
     teller: &mut T,
 ) -> u8
-    ensures ran { EndsOver (limits_of terms) says_yes keys.now aad.now
-        (devices_of R.Read W.Write input.old out.old)
-        (devices_of R.Read W.Write input.new out.new) result }
-    ensures told { OverTold (limits_of terms) says_yes keys.now aad.now
+    ensures ran { EndsTold (limits_of terms) says_yes (Some keys.now) (Some aad.now)
         (devices_of R.Read W.Write input.old out.old)
         (devices_of R.Read W.Write input.new out.new) result
         (tells T.Teller teller.old teller.new) }
@@ -203,12 +191,8 @@ pub fn run_with<R: Read, W: Write, E: Write>(
     out: &mut W,
     err: &mut E,
 ) -> u8
-    ensures ran { EndsWithin (limits_of terms) says_yes
-        (option_copied keys.entry) (option_copied aad.entry)
-        (devices_of R.Read W.Write input.old out.old)
-        (devices_of R.Read W.Write input.new out.new) result }
-    ensures lines { EndsTold (limits_of terms) says_yes
-        (option_copied keys.entry) (option_copied aad.entry)
+    ensures ran { EndsTold (limits_of terms) says_yes (option_copied keys.entry)
+        (aad_of (option_copied aad.entry))
         (devices_of R.Read W.Write input.old out.old)
         (devices_of R.Read W.Write input.new out.new) result
         (writes E.Write err.old err.new) }
@@ -250,11 +234,8 @@ pub fn run<R: Read, W: Write, E: Write>(
     out: &mut W,
     err: &mut E,
 ) -> u8
-    ensures ran { Ends says_yes (option_copied keys.entry) (option_copied aad.entry)
-        (devices_of R.Read W.Write input.old out.old)
-        (devices_of R.Read W.Write input.new out.new) result }
-    ensures lines { EndsTold usual says_yes
-        (option_copied keys.entry) (option_copied aad.entry)
+    ensures ran { EndsTold usual says_yes (option_copied keys.entry)
+        (aad_of (option_copied aad.entry))
         (devices_of R.Read W.Write input.old out.old)
         (devices_of R.Read W.Write input.new out.new) result
         (writes E.Write err.old err.new) }

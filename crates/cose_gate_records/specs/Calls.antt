@@ -1,13 +1,11 @@
 -- What a call over buffers returns.
-use Rattle.std.specs.Prelude.{◌≡◌, ◌≢◌, ℕ, ◌<◌, ◌≤◌, ◌⊎◌, List, [], ◌++◌, length, drop, flat_map, Option, Some, Bool, true}
+use Rattle.std.specs.Prelude.{◌≡◌, ℕ, ◌<◌, ◌≤◌, ◌⊎◌, List, [], ◌++◌, length, drop, flat_map, Option, None, Some, Bool, true}
 use Rattle.coset_labels.specs.Limits.{AreLimits}
-use Rattle.cose_gate_core.specs.Asked.{IsFront}
 use Rattle.cose_gate_core.specs.Findings.{Bounds, excluded_by}
 use Rattle.cose_gate_core.specs.Questions.{Question}
-use Rattle.cose_gate_core.specs.Run.{Step, Course, questions_of}
 use Rattle.cose_gate_program.specs.Judge.{says_yes}
-use Rattle.cose_gate_program.specs.Program.{Devices, IsUnreadable}
-use Rattle.cose_gate_program.specs.Telling.{OnTold, OverTold}
+use Rattle.cose_gate_program.specs.Program.{Devices}
+use Rattle.cose_gate_program.specs.Telling.{RanTold, EndsTold}
 use Rattle.cose_gate_program.specs.declared.telling.Notice.{Notice}
 use Rattle.cose_gate_records.specs.Framing.{framed}
 use Rattle.cose_gate_records.specs.Records.{is_among, record_of}
@@ -19,39 +17,27 @@ abbrev pub within : ℕ → ℕ → Bool → Bounds
 within nesting layers strict =
     record { nesting = nesting; layers = layers; excludes = λ bytes m. excluded_by strict bytes m }
 
--- before the run: the whole input is to come, and nothing is written
-abbrev pub before : List ℕ → Devices
-before input =
-    record { left = Some input; written = Some []; read_failures = 0; write_failures = 0 }
-
--- after it, if memory was found for all that was written
-abbrev pub after : Option (List ℕ) → List ℕ → Devices
-after left written =
-    record { left = left; written = Some written; read_failures = 0; write_failures = 0 }
-
--- the statuses of a run
-abbrev pub IsRunStatus : ℕ → Type 0
-IsRunStatus status = (status < 2) ⊎ (status ≡ 3) ⊎ (status ≡ 4)
+-- the input to come and the output, if they are known, when nothing has failed
+abbrev pub devices : Option (List ℕ) → Option (List ℕ) → Devices
+devices left written =
+    record { left = left; written = written; read_failures = 0; write_failures = 0 }
 
 -- the program's run wrote this output and these lines, and ended with this status
-pub record Runs (limits : Bounds) (keys aad input lines : List ℕ) (count : ℕ) (written : List ℕ)
-    (status : ℕ) : Type 0 where
-  pub left : Option (List ℕ)
-  pub told : OverTold limits says_yes keys aad (before input) (after left written) status
-      (AreLinesOf lines count)
-  pub known : IsRunStatus status
+abbrev pub Runs : Bounds → List ℕ → List ℕ → List ℕ → List ℕ → ℕ → List ℕ → ℕ → Type 0
+Runs limits keys aad input lines count written status = (left : Option (List ℕ))
+    × EndsTold limits says_yes (Some keys) (Some aad) (devices (Some input) (Some []))
+    (devices left (Some written)) status (AreLinesOf lines count)
 
 -- out of memory, and nothing is written
 abbrev pub NoMemory : List ℕ → ℕ → Type 0
 NoMemory written status = (written ≡ []) × (status ≡ 4)
 
--- some run over this input ended so, and of what was told of it this holds
-pub record RunTold (limits : Bounds) (allows : Question → Bool) (aad input : List ℕ) (status : ℕ)
-    (Holds : List Notice → Type 0) : Type 0 where
-  pub old : Devices
-  pub new : Devices
-  pub there : old.left ≡ Some input
-  pub run : OnTold limits allows aad old new status Holds
+-- out of memory for what a run over this input wrote or was asked: the lines are those of the run,
+-- but for the last
+abbrev pub IsCut : Bounds → (Question → Bool) → List ℕ → List ℕ → List ℕ → ℕ → Type 0
+IsCut limits allows aad input lines count =
+    (old : Devices) × (new : Devices) × (status : ℕ) × (old.left ≡ Some input)
+    × RanTold limits allows aad old new status (λ _. Unit {0}) (AreCut lines count)
 
 -- the output is in front of what was there, if it is no longer; else there is no space, and nothing
 -- was written
@@ -83,57 +69,26 @@ abbrev pub Checked : Bounds → List ℕ → List ℕ → List ℕ → List ℕ 
 Checked limits keys aad input lines count written status =
     Runs limits keys aad input lines count written status
     ⊎ (NoMemory written status × ((new : Devices) × (ended : ℕ)
-    × OverTold limits says_yes keys aad (before input) new ended (AreCut lines count)))
+    × EndsTold limits says_yes (Some keys) (Some aad) (devices (Some input) (Some [])) new ended
+    (AreCut lines count)))
 
 abbrev pub Checks : ℕ → ℕ → Bool → List ℕ → List ℕ → List ℕ → Buffers → Buffers → Answer → Type 0
 Checks nesting layers strict keys aad input old new answer =
     Answers nesting layers
     (Checked (within nesting layers strict) keys aad input new.lines answer.lines) old new answer
 
--- out of memory: at the last step, or after all of them, with more to come. All questions about the
--- steps before it were told.
-pub record ToldBefore (aad : List ℕ) (steps : List Step) (more : List ℕ) (front : List Question)
-    : Type 0 where
-  pub done : List Step
-  pub last : List Step
-  pub parts : steps ≡ done ++ last
-  pub one : length last ≤ 1
-  pub due : last ≡ [] → more ≢ []
-  pub all_before : IsFront (questions_of (λ _. true) aad done) front
-
--- how far questions are told if the run stopped: all before an item that can't be read, or all
--- before the one at which it was out of memory
-abbrev pub ToldUpTo : ℕ → List ℕ → List ℕ → List Step → List ℕ → List Question → Type 0
-ToldUpTo nesting aad input steps more front =
-    (IsUnreadable nesting input more × (front ≡ questions_of (λ _. true) aad steps))
-    ⊎ ToldBefore aad steps more front
-
--- the output is the records of the questions that a judge is asked who always says yes, in order:
--- all of them if the run went to its end, and else a front of them, up to where it stopped
-pub record Tells (limits : Bounds) (aad input text : List ℕ) (status : ℕ) : Type 0 where
-  pub steps : List Step
-  pub more : List ℕ
-  pub course : Course limits (λ _. true) aad 0 input steps more
-  pub front : List Question
-  pub is_front : IsFront front (questions_of (λ _. true) aad steps)
-  pub text_is : text ≡ flat_map record_of front
-  pub whole : status < 2 → (more ≡ []) × (front ≡ questions_of (λ _. true) aad steps)
-  pub stopped : status ≡ 4 → ToldUpTo limits.nesting aad input steps more front
-  pub known : (status < 2) ⊎ (status ≡ 4)
-
--- the same, and the lines are those of that run
-pub record TellsIn (limits : Bounds) (aad input lines : List ℕ) (count : ℕ) (text : List ℕ)
-    (status : ℕ) : Type 0 where
-  pub tells : Tells limits aad input text status
-  pub run : RunTold limits (λ _. true) aad input status (AreLinesOf lines count)
-  pub one : run.run.on.ran.steps ≡ tells.steps
+-- the output is the records of the questions that were asked in a run with a judge who always says
+-- yes, in order, and the lines are those of that run
+abbrev pub TellsIn : Bounds → List ℕ → List ℕ → List ℕ → ℕ → List ℕ → ℕ → Type 0
+TellsIn limits aad input lines count text status = (left : Option (List ℕ))
+    × RanTold limits (λ _. true) aad (devices (Some input) None) (devices left None) status
+    (λ asked. text ≡ flat_map record_of asked) (AreLinesOf lines count)
 
 -- that, or memory ran out for the records
 abbrev pub Told : Bounds → List ℕ → List ℕ → List ℕ → ℕ → List ℕ → ℕ → Type 0
 Told limits aad input lines count written status =
     TellsIn limits aad input lines count written status
-    ⊎ (NoMemory written status × ((ended : ℕ)
-    × RunTold limits (λ _. true) aad input ended (AreCut lines count)))
+    ⊎ (NoMemory written status × IsCut limits (λ _. true) aad input lines count)
 
 abbrev pub Asks : ℕ → ℕ → Bool → List ℕ → List ℕ → Buffers → Buffers → Answer → Type 0
 Asks nesting layers strict aad input old new answer =
@@ -141,19 +96,16 @@ Asks nesting layers strict aad input old new answer =
     (Told (within nesting layers strict) aad input new.lines answer.lines) old new answer
 
 -- the run with the judge that says yes if the key of a question is one of these
-pub record RunsBy (limits : Bounds) (keys : List (List ℕ)) (aad input lines : List ℕ) (count : ℕ)
-    (written : List ℕ) (status : ℕ) : Type 0 where
-  pub left : Option (List ℕ)
-  pub ran : OnTold limits (is_among keys) aad (before input) (after left written) status
-      (AreLinesOf lines count)
-  pub known : (status < 2) ⊎ (status ≡ 4)
+abbrev pub RunsBy : Bounds → List (List ℕ) → List ℕ → List ℕ → List ℕ → ℕ → List ℕ → ℕ → Type 0
+RunsBy limits keys aad input lines count written status = (left : Option (List ℕ))
+    × RanTold limits (is_among keys) aad (devices (Some input) (Some []))
+    (devices left (Some written)) status (λ _. Unit {0}) (AreLinesOf lines count)
 
 -- that run, or memory ran out for its output
 abbrev pub RanBy : Bounds → List (List ℕ) → List ℕ → List ℕ → List ℕ → ℕ → List ℕ → ℕ → Type 0
 RanBy limits keys aad input lines count written status =
     RunsBy limits keys aad input lines count written status
-    ⊎ (NoMemory written status × ((ended : ℕ)
-    × RunTold limits (is_among keys) aad input ended (AreCut lines count)))
+    ⊎ (NoMemory written status × IsCut limits (is_among keys) aad input lines count)
 
 -- if what was accepted is records, one after another, that run; else nothing was read, and the lines
 -- are one that says so. If memory ran out for the records, nothing was read either.

@@ -1,8 +1,9 @@
 //! The program's run with its lines in a buffer.
+ghost use Rattle.std.specs.Prelude.{Some};
 ghost use Rattle.cose_gate_core.specs.Terms.{limits_of};
 ghost use Rattle.cose_gate_program.specs.Judge.{says_yes};
-ghost use Rattle.cose_gate_program.specs.Program.{devices_of, hearing_of};
-ghost use Rattle.cose_gate_program.specs.Telling.{OverTold, RanTold};
+ghost use Rattle.cose_gate_program.specs.Program.{devices_of, hears};
+ghost use Rattle.cose_gate_program.specs.Telling.{EndsTold, RanTold};
 ghost use Rattle.cose_gate_records.specs.Lines.{AreHeld};
 
 use crate::lines::Lines;
@@ -29,7 +30,7 @@ pub(crate) fn run_with_keys<R: Read, W: Write>(
     out: &mut W,
     lines: &mut [u8],
 ) -> Ended
-    ensures { OverTold (limits_of terms) says_yes keys.now aad.now
+    ensures { EndsTold (limits_of terms) says_yes (Some keys.now) (Some aad.now)
         (devices_of R.Read W.Write input.old out.old)
         (devices_of R.Read W.Write input.new out.new) result.status
         (AreHeld «lines».new result.last result.end) }
@@ -53,10 +54,10 @@ pub(crate) fn run_with_judge<R: Read, W: Write, J: Judge>(
     lines: &mut [u8],
     judge: &mut J,
 ) -> Ended
-    ensures { RanTold (limits_of terms) (hearing_of J.Judge judge.old judge.new) aad.now
+    ensures { RanTold (limits_of terms) (J.yes (J.who judge.old)) aad.now
         (devices_of R.Read W.Write input.old out.old)
         (devices_of R.Read W.Write input.new out.new) result.status
-        (AreHeld «lines».new result.last result.end) }
+        (hears J.Judge judge.old judge.new) (AreHeld «lines».new result.last result.end) }
 {
     let mut told = Lines::new(lines);
     let status = run_told(alloc, terms, aad, input, out, &mut told, judge);
