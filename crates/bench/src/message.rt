@@ -2,8 +2,8 @@
 ghost use Rattle.std.specs.Prelude.{◌<◌, IfOk, length};
 
 use ciborium::{Decoder, End, Read};
-use cose_gate_program::HmacJudge;
 use cose_gate::{StreamFault, stream_check};
+use cose_gate_program::HmacJudge;
 use cose_hmac::HmacSha256;
 use coset_base::{MacContext, bytes_title};
 use coset_keys::CoseKeySet;

@@ -15,9 +15,7 @@ ghost use Rattle.coset.specs.View.{header_view};
 ghost use Rattle.callers.specs.Signing.{IsGood, Verified};
 
 use cose_hmac::{hmac_sha256, same_tag};
-use coset::{
-    CoseMac0, CoseSign1, CoseSign1Builder, Fault, Header, TaggedCborSerializable,
-};
+use coset::{CoseMac0, CoseSign1, CoseSign1Builder, Fault, Header, TaggedCborSerializable};
 use std::alloc::{AllocError, Global};
 
 /// A key of the caller: which signatures are good under it, over which bytes.

@@ -8,9 +8,9 @@ ghost use Rattle.callers.specs.Tagged.{fields_of, tagged_put, AsReceived, as_rec
 
 use ciborium::ser::{Serialize, Sink};
 use ciborium::{Mem, into_writer};
-use coset_maced::{put_tagged_mac, put_tagged_mac0};
 use coset::laws::{maced, signed};
 use coset::{CoseMac, CoseMac0, CoseSign, CoseSign1};
+use coset_maced::{put_tagged_mac, put_tagged_mac0};
 use coset_signed::{put_tagged_sign, put_tagged_sign1};
 use std::alloc::{AllocError, Global};
 

@@ -2,8 +2,8 @@
 use crate::out::{NoAnswer, Out};
 use crate::words;
 use ciborium_ll::Io;
-use cose_gate_command::{NotRun, ask, ended, pass, pass_arguments};
 use cose_gate::{Limits, Mem, Terms, Write};
+use cose_gate_command::{NotRun, ask, ended, pass, pass_arguments};
 use std::alloc::Global;
 use std::io::{BufWriter, Cursor};
 use test_tools::Held;

@@ -2,7 +2,7 @@
 use crate::ending::Ending;
 use crate::lines::write_questions;
 use crate::not_run::NotRun;
-use crate::pass_arguments::{ask_arguments, read_aad};
+use crate::options::{ask_arguments, read_aad};
 use ciborium_ll::{Read, Write};
 use cose_gate_program::{Limits, Terms, run_told};
 use cose_gate_records::{Asker, Nowhere};

@@ -15,7 +15,7 @@ mod key_file;
 mod lines;
 mod more;
 mod not_run;
-mod pass_arguments;
+mod options;
 mod passing;
 mod question;
 mod said;
@@ -27,7 +27,7 @@ pub use crate::asking::ask;
 pub use crate::command::{USAGE, program};
 pub use crate::key_file::KeyFile;
 pub use crate::not_run::NotRun;
-pub use crate::pass_arguments::{PassArguments, pass_arguments};
+pub use crate::options::{PassArguments, pass_arguments};
 pub use crate::passing::pass;
 pub use crate::starting::{
     Content, asks_for_help, asks_for_version, ended, read_in_blocks, words_of, write_help,

@@ -1,7 +1,7 @@
 //! The run of `cose-pass`.
 use crate::accepted::read_accepted;
 use crate::not_run::NotRun;
-use crate::pass_arguments::{PassArguments, read_aad};
+use crate::options::{PassArguments, read_aad};
 use ciborium_ll::{Read, Write};
 use cose_gate_program::{Limits, Terms, run_judged};
 use cose_gate_records::Accepted;

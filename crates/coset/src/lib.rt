@@ -9,14 +9,6 @@ pub mod cwt;
 pub mod laws;
 
 pub use ciborium as cbor;
-pub use coset_kdf::{
-    CoseKdfContext, CoseKdfContextBuilder, Nonce, PartyInfo, PartyInfoBuilder, SuppPubInfo,
-    SuppPubInfoBuilder,
-};
-pub use coset_keys::{
-    CoseKey, CoseKeyBuilder, CoseKeySet, KeyOperation, MlDsaVariant, ParseSec1OctetStringError,
-    ToSec1OctetStringError,
-};
 pub use coset_base::{
     Algorithm, AsCborValue, AsWritten, BytesTitle, CborOrdering, CborSerializable, ContentType,
     CoseError, CoseSignature, CoseSignatureBuilder, EncryptionContext, EndOfFile, Fault, Header,
@@ -27,6 +19,14 @@ pub use coset_base::{
     write_to_vec,
 };
 pub use coset_encrypted::{CoseEncrypt, CoseEncrypt0, CoseEncrypt0Builder, CoseEncryptBuilder};
+pub use coset_kdf::{
+    CoseKdfContext, CoseKdfContextBuilder, Nonce, PartyInfo, PartyInfoBuilder, SuppPubInfo,
+    SuppPubInfoBuilder,
+};
+pub use coset_keys::{
+    CoseKey, CoseKeyBuilder, CoseKeySet, KeyOperation, MlDsaVariant, ParseSec1OctetStringError,
+    ToSec1OctetStringError,
+};
 pub use coset_maced::{
     CoseMac, CoseMac0, CoseMac0Builder, CoseMacBuilder, CoseRecipient, CoseRecipientBuilder,
 };
