@@ -1,4 +1,4 @@
-use Rattle.std.proofs.Common.{rules, ◌+◌, ◌∷◌, ◌∙◌, map, drop, ap, sym, arith}
+use Rattle.std.proofs.Common.{◌+◌, ◌∷◌, ◌∙◌, map, drop, ap, sym, arith}
 use Rattle.std.specs.Prelude.{string_bytes}
 use Rattle.cose_gate_core.proofs.InOrder.{rest_step}
 use Rattle.cose_gate_command.specs.Options.{after}
