@@ -1,7 +1,7 @@
 -- The steps of the walk.
 use Rattle.std.proofs.Common.{◌≡◌, ◌≢◌, ℕ, zero, suc, ◌+◌, ◌-◌, List, [], ◌∷◌, ◌++◌, true, false, Option, Some, None, Result, Ok, Err, IfErr, refl, sym, ap, subst, ◌∙◌, append_assoc, append-nil, arith, length, reverse, ◌<◌}
 use Rattle.std.proofs.lemmas.List.{reverse-append}
-use Rattle.ciborium_ll.specs.Title.{Title}
+use Rattle.ciborium_ll.specs.Title.{Title, Begins}
 use Rattle.ciborium_ll.specs.declared.hdr.Header.{Header}
 use Rattle.ciborium_ll.specs.declared.hdr.Header.TheVariants.{Break}
 use Rattle.ciborium_ll.proofs.Closings.{split_heads, break_title}
@@ -79,10 +79,10 @@ group_breaks : (k : Holds) (a u left title : List ℕ) → Items (size k) a → 
 group_breaks k a u left title is t e = break_refuses (λ b. b ≡ []) (size k - 1) title t a u left (a, [], subst (λ (z : ℕ). Items z a) (one_more k) is, refl, sym (append-nil a)) e
 
 -- the bytes of a string that is none
-no_body : (P : List ℕ → Type 0) (b : List ℕ) → P b → Then (Long 0) P b
+pub no_body : (P : List ℕ → Type 0) (b : List ℕ) → P b → Then (Long 0) P b
 no_body P b p = ([], b, refl, p, refl)
 
-only_rest : (P : List ℕ → Type 0) (b : List ℕ) → Then (Long 0) P b → P b
+pub only_rest : (P : List ℕ → Type 0) (b : List ℕ) → Then (Long 0) P b → P b
 only_rest P b ([], y, l, p, e) = subst P (sym e) p
 only_rest P b (x ∷ xs, y, l, p, e) = absurd (omega arith)
 
@@ -210,3 +210,14 @@ whole_item x g = record {
   is = subst Item (append-nil x) (g.back [] refl);
   once = λ i behind left h e. let u = g.on i behind left h e in u.whole ∙ ap (λ z. x ++ z) u.has ∙ append-nil x;
 }
+
+-- What is due begins with a head.
+pub wants_begin : (o : Option Holds) (due : ℕ) (ls : List Level) (i : List ℕ) → (due ≡ 0 → o ≢ None) → Wants o due ls i → (h : Header) × (rest : List ℕ) × Begins i h rest
+wants_begin None zero ls i on w = absurd (on refl refl)
+wants_begin (Some k) zero [] i on (x, y, is, none, e) = absurd none
+wants_begin (Some k) zero (l ∷ ls) i on (_, d, no_items, (_, z, no_groups _, (s, y, br, w, f), g), e) =
+    (Break, y, record { title = 255 ∷ []; is_title = break_title; whole = e ∙ g ∙ f ∙ ap (λ z. z ++ y) br })
+wants_begin (Some k) zero (l ∷ ls) i on (_, d, no_items, (_, z, group_more _ a c (s, r, u, v, ok, m) is gs, w, g), e) =
+    (u, r ++ (c ++ z), record { title = s; is_title = v; whole = e ∙ g ∙ append_assoc a c z ∙ regroup a s r (c ++ z) m })
+wants_begin o (suc n) ls i on (_, y, item_more _ a c (item _ s r k t q f) is, w, e) =
+    (k, r ++ (c ++ y), record { title = s; is_title = t; whole = e ∙ append_assoc a c y ∙ regroup a s r (c ++ y) f })

@@ -2,6 +2,8 @@
 #![tactic(auto)]
 
 pub mod laws;
+mod taking;
 mod walk;
 
+pub use crate::taking::{Stop, Taking};
 pub use crate::walk::{Fault, Walk};
