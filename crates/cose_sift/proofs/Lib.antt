@@ -1,3 +1,5 @@
 pub mod Going
 pub mod Steps
 pub mod Takes
+pub mod Readable
+pub mod TakenItem

@@ -4,11 +4,14 @@ use Rattle.ciborium_ll.specs.Seen.{Seen, Takes}
 use Rattle.ciborium_ll.specs.Title.{IsCut, StartsBad}
 use Rattle.ciborium_ll.specs.declared.hdr.Error.{Error}
 use Rattle.ciborium_ll.specs.declared.hdr.Error.TheVariants as code
+use Rattle.cose_sift.specs.declared.items.Halt.{Halt}
+use Rattle.cose_sift.specs.declared.items.Halt.TheVariants as halt
 use Rattle.cose_sift.specs.declared.taking.Stop.{Stop}
 use Rattle.cose_sift.specs.declared.taking.Stop.TheVariants as stop
 use Rattle.cose_sift.specs.declared.taking.Taking.{Taking}
 use Rattle.cose_sift.specs.declared.walk.Fault.{Fault}
 use Rattle.cose_sift.specs.declared.walk.Fault.TheVariants as fault
+use Rattle.cose_sift.specs.Grammar.{Item}
 use Rattle.cose_sift.specs.Walking.{Then, Long, Refuses, wanted_by}
 use Rattle.cose_sift.specs.Walking.{IsDue as IsWalking}
 
@@ -62,3 +65,13 @@ StepFails P old new stop.Deep = Unit {0}
 StepFails P old new stop.Input = Unit {0}
 StepFails P old new stop.TooLong = Unit {0}
 StepFails P old new stop.Memory = Unit {0}
+
+-- why no item was taken
+abbrev pub ItemFails : Seen → Seen → Halt → Type 0
+ItemFails old new (halt.Decode (stop.Syntax p)) = (p ≤ new.offset) × Takes old new (Refuses Item)
+ItemFails old new (halt.Decode stop.Cut) = BeginsNone Item old.left
+ItemFails old new (halt.Decode stop.Deep) = Unit {0}
+ItemFails old new (halt.Decode stop.Input) = Unit {0}
+ItemFails old new (halt.Decode stop.TooLong) = Unit {0}
+ItemFails old new (halt.Decode stop.Memory) = Unit {0}
+ItemFails old new halt.Write = Unit {0}

@@ -1,5 +1,7 @@
-//! A fact about items by their heads, for proofs. The call does nothing at run time.
+//! Facts about items by their heads, for proofs. The calls do nothing at run time.
 ghost use Rattle.std.specs.Prelude.{ℕ, List};
+ghost use Rattle.ciborium.specs.Front.{Reads};
+ghost use Rattle.ciborium_value.specs.Tree.{Tree};
 ghost use Rattle.cose_sift.specs.Grammar.{Item};
 ghost use Rattle.cose_sift.specs.Walking.{Goes, IsNothing, IsOne};
 
@@ -7,4 +9,9 @@ ghost use Rattle.cose_sift.specs.Walking.{Goes, IsNothing, IsOne};
 /// begins them.
 pub fn whole_items()
     ensures { (x : List ℕ) → Goes Item IsNothing x → IsOne x }
+{}
+
+/// What ciborium reads as an item is one.
+pub fn readable_items()
+    ensures { (b : List ℕ) (limit : ℕ) (v : Tree) → Reads b limit v → Item b }
 {}

@@ -1,9 +1,11 @@
 //! Where the items of a CBOR sequence end, by their heads alone.
 #![tactic(auto)]
 
+mod items;
 pub mod laws;
 mod taking;
 mod walk;
 
+pub use crate::items::{Halt, take_item};
 pub use crate::taking::{Stop, Taking};
 pub use crate::walk::{Fault, Walk};
