@@ -3,3 +3,4 @@ pub mod Steps
 pub mod Takes
 pub mod Readable
 pub mod TakenItem
+pub mod ReadItem

@@ -1,3 +1,4 @@
 pub mod Grammar
 pub mod Walking
 pub mod Taking
+pub mod Reading

@@ -3,9 +3,11 @@
 
 mod items;
 pub mod laws;
+mod reading;
 mod taking;
 mod walk;
 
 pub use crate::items::{Halt, take_item};
+pub use crate::reading::is_readable;
 pub use crate::taking::{Stop, Taking};
 pub use crate::walk::{Fault, Walk};
