@@ -1,5 +1,5 @@
 -- An item that is taken step by step.
-use Rattle.std.proofs.Common.{◌≡◌, ◌+◌, ℕ, List, [], ◌++◌, length, Option, Some, None, sym, subst, ◌∙◌, append_assoc, append-nil, arith}
+use Rattle.std.proofs.Common.{◌≡◌, ◌+◌, ℕ, List, [], ◌∷◌, ◌++◌, length, Option, Some, None, sym, subst, ◌∙◌, append_assoc, append-nil, arith}
 use Rattle.std.proofs.lemmas.List.{append_cancel_left}
 use Rattle.std.specs.Io.KnownBytes.{Consumes}
 use Rattle.ciborium_ll.specs.Seen.{Seen, Takes}
@@ -10,7 +10,7 @@ use Rattle.cose_sift.specs.declared.taking.Stop.{Stop}
 use Rattle.cose_sift.specs.declared.taking.Stop.TheVariants as stop
 use Rattle.cose_sift.specs.declared.taking.Taking.{Taking}
 use Rattle.cose_sift.specs.Grammar.{Item}
-use Rattle.cose_sift.specs.Taking.{due_by, Held, StepFails, BeginsNone, ItemFails}
+use Rattle.cose_sift.specs.Taking.{due_by, Held, StepFails, BeginsNone, IfKnown, ItemFails}
 use Rattle.cose_sift.specs.Walking.{Goes, Refuses, IsNothing, IsOne}
 use Rattle.cose_sift.proofs.Going.{regroup, goes_then}
 use Rattle.cose_sift.proofs.Steps.{whole_item}
@@ -37,6 +37,12 @@ none_behind P x (Some b) (Some r) g c none = λ i behind p e.
     let u = g.on i behind r p (e ∙ c) in
     none u.rest behind u.has (append_cancel_left x (u.rest ++ behind) r (sym (regroup i x u.rest behind u.whole) ∙ e ∙ c))
 
+nothing_behind : (x : List ℕ) (l m : Option (List ℕ)) → length x ≡ 0 → Consumes l m x → IfKnown m IsNothing → IfKnown l IsNothing
+nothing_behind x None m none c e = tt
+nothing_behind x (Some b) None none c e = absurd c
+nothing_behind [] (Some b) (Some r) none c e = c ∙ e
+nothing_behind (y ∷ ys) (Some b) (Some r) none c e = absurd (omega arith)
+
 refuses_behind : (P : List ℕ → Type 0) (x y : List ℕ) → Goes Item P x → Refuses P y → Refuses Item (x ++ y)
 refuses_behind P x y g r i behind left p e =
     let f : i ++ behind ≡ x ++ (y ++ left) = e ∙ append_assoc x y left in
@@ -47,6 +53,10 @@ pub begun_fails : (old mid new : Seen) (t : Taking) (s : Stop) → Begun old mid
 begun_fails old mid new t (stop.Syntax p) b f = (
   (let g : new.offset ≡ mid.offset + length f.1.bytes = f.1.grown in let h : p ≡ mid.offset = f.0 in omega arith),
   takes_then old.left mid.left new.left old.offset mid.offset new.offset _ _ (Refuses Item) b.taken f.1 (λ x y q r. refuses_behind (due_by t) x y q.0 r),
+)
+begun_fails old mid new t stop.End b f = (
+  λ same. nothing_behind b.taken.bytes old.left mid.left (let g : mid.offset ≡ old.offset + length b.taken.bytes = b.taken.grown in let h : new.offset ≡ mid.offset = f.0 in omega arith) b.taken.taken f.1,
+  none_behind (due_by t) b.taken.bytes old.left mid.left b.taken.has.0 b.taken.taken f.2,
 )
 begun_fails old mid new t stop.Cut b f = none_behind (due_by t) b.taken.bytes old.left mid.left b.taken.has.0 b.taken.taken f
 begun_fails old mid new t stop.Deep b f = tt

@@ -17,26 +17,26 @@ use Rattle.cose_sift.specs.declared.taking.Stop.TheVariants as stop
 use Rattle.cose_sift.specs.declared.walk.Fault.{Fault}
 use Rattle.cose_sift.specs.declared.walk.Fault.TheVariants as fault
 use Rattle.cose_sift.specs.Taking.{HeadFails, StepFails, BeginsNone, IfKnown, stop_of, stopped_at}
-use Rattle.cose_sift.specs.Walking.{Then, Long, Follows, Goes, Refuses, IfSyntax}
+use Rattle.cose_sift.specs.Walking.{Then, Long, Follows, Goes, Refuses, IsNothing, IfSyntax}
 use Rattle.cose_sift.proofs.Going.{regroup, goes_from}
 use Rattle.cose_sift.proofs.Steps.{only_rest, no_body}
 
 -- a read of n bytes that failed
-module _ {E : Type 0} (F : Stop → Type 0) (input : F stop.Input) (long : F stop.TooLong) (ends : E → Bool) (n : ℕ) (mid new : Seen) (cut : IsShort mid.left n → F stop.Cut) where
-  by_end : (b : Bool) → (IsTrue b → IsShort mid.left n) → F (cond b stop.Cut stop.Input)
+module _ {E : Type 0} (F : Stop → Type 0) (input : F stop.Input) (long : F stop.TooLong) (ends : E → Bool) (n : ℕ) (mid new : Seen) (end : Stop) (cut : IsShort mid.left n → F end) where
+  by_end : (b : Bool) → (IsTrue b → IsShort mid.left n) → F (cond b end stop.Input)
   by_end true f = cut (f refl)
   by_end false f = input
 
-  pub read_fails : (e : Error E) (s : Stop) → s ≡ stop_of ends e → ReadTells ends n mid new e → F s
+  pub read_fails : (e : Error E) (s : Stop) → s ≡ stop_of ends end e → ReadTells ends n mid new e → F s
   read_fails (code.Io e) s is f = subst F (sym is) (by_end (ends e) f)
   read_fails (code.Syntax p) s is f = absurd f
   read_fails code.TooLong s is f = subst F (sym is) long
   read_fails code.Waiting s is f = subst F (sym is) input
 
 -- the input ends before the first byte of a head, or after it
-pub short_first : (left : Option (List ℕ)) (n : ℕ) → n ≡ 1 → IsShort left n → IfKnown left IsCut
+pub short_first : (left : Option (List ℕ)) (n : ℕ) → n ≡ 1 → IsShort left n → IfKnown left IsNothing
 short_first None n is short = tt
-short_first (Some []) n is short = tt
+short_first (Some []) n is short = refl
 short_first (Some (x ∷ xs)) n is short = absurd (omega arith)
 
 pub short_rest : (left mid : Option (List ℕ)) (d : List ℕ) (n : ℕ) → length d ≡ 1 → n ≤ bytes_after (get_or d 0 0) → Consumes left mid d → IsShort mid n → IfKnown left IsCut
@@ -72,6 +72,10 @@ module _ (P : List ℕ → Type 0) (begins : (i : List ℕ) → P i → (h : Hea
   cut_none None c = tt
   cut_none (Some b) c = λ i behind p e. let q = begins i p in not_cut q.2.title (q.1 ++ behind) q.0 q.2.is_title (subst IsCut (sym (sym (regroup i q.2.title q.1 behind q.2.whole) ∙ e)) c)
 
+  end_cut : (left : Option (List ℕ)) → IfKnown left IsNothing → IfKnown left IsCut
+  end_cut None e = tt
+  end_cut (Some b) e = subst IsCut (sym e) tt
+
   bad_on : (x left : List ℕ) → StartsBad x → StartsBad (x ++ left)
   bad_on [] left bad = absurd bad
   bad_on (f ∷ fs) left bad = bad
@@ -81,6 +85,7 @@ module _ (P : List ℕ → Type 0) (begins : (i : List ℕ) → P i → (h : Hea
 
   pub head_fails : (old new : Seen) (s : Stop) → HeadFails old new s → StepFails P old new s
   head_fails old new (stop.Syntax p) f = (f.0, record { bytes = f.1.bytes; has = bad_refuses f.1.bytes f.1.has; taken = f.1.taken; grown = f.1.grown })
+  head_fails old new stop.End f = (f.0, f.1, cut_none old.left (end_cut old.left f.1))
   head_fails old new stop.Cut f = cut_none old.left f
   head_fails old new stop.Deep f = tt
   head_fails old new stop.Input f = tt

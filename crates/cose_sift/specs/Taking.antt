@@ -12,7 +12,7 @@ use Rattle.cose_sift.specs.declared.taking.Taking.{Taking}
 use Rattle.cose_sift.specs.declared.walk.Fault.{Fault}
 use Rattle.cose_sift.specs.declared.walk.Fault.TheVariants as fault
 use Rattle.cose_sift.specs.Grammar.{Item}
-use Rattle.cose_sift.specs.Walking.{Then, Long, Refuses, wanted_by}
+use Rattle.cose_sift.specs.Walking.{Then, Long, Refuses, IsNothing, wanted_by}
 use Rattle.cose_sift.specs.Walking.{IsDue as IsWalking}
 
 -- what is due of the item
@@ -35,12 +35,12 @@ abbrev pub IfKnown : Option (List ℕ) → (List ℕ → Type 0) → Type 0
 IfKnown None P = Unit {0}
 IfKnown (Some b) P = P b
 
--- why a read failed
-abbrev pub stop_of : {E : Type 0} → (E → Bool) → Error E → Stop
-stop_of ends (code.Io e) = if ends e then stop.Cut else stop.Input
-stop_of ends (code.Syntax p) = stop.Syntax p
-stop_of ends code.TooLong = stop.TooLong
-stop_of ends code.Waiting = stop.Input
+-- why a read failed; `end` if the input ended
+abbrev pub stop_of : {E : Type 0} → (E → Bool) → Stop → Error E → Stop
+stop_of ends end (code.Io e) = if ends e then end else stop.Input
+stop_of ends end (code.Syntax p) = stop.Syntax p
+stop_of ends end code.TooLong = stop.TooLong
+stop_of ends end code.Waiting = stop.Input
 
 -- why the walk stopped at a head
 abbrev pub stopped_at : ℕ → Fault → Stop
@@ -51,6 +51,7 @@ stopped_at at fault.Memory = stop.Memory
 -- why a head wasn't taken
 abbrev pub HeadFails : Seen → Seen → Stop → Type 0
 HeadFails old new (stop.Syntax p) = (p ≡ old.offset) × Takes old new StartsBad
+HeadFails old new stop.End = (new.offset ≡ old.offset) × IfKnown old.left IsNothing
 HeadFails old new stop.Cut = IfKnown old.left IsCut
 HeadFails old new stop.Deep = ⊥
 HeadFails old new stop.Input = Unit {0}
@@ -60,15 +61,17 @@ HeadFails old new stop.Memory = Unit {0}
 -- why an item of which P is due doesn't go on
 abbrev pub StepFails : (List ℕ → Type 0) → Seen → Seen → Stop → Type 0
 StepFails P old new (stop.Syntax p) = (p ≡ old.offset) × Takes old new (Refuses P)
+StepFails P old new stop.End = (new.offset ≡ old.offset) × IfKnown old.left IsNothing × BeginsNone P old.left
 StepFails P old new stop.Cut = BeginsNone P old.left
 StepFails P old new stop.Deep = Unit {0}
 StepFails P old new stop.Input = Unit {0}
 StepFails P old new stop.TooLong = Unit {0}
 StepFails P old new stop.Memory = Unit {0}
 
--- why no item was taken
+-- why no item was taken; the input was at its end if it ends before a head and nothing was taken
 abbrev pub ItemFails : Seen → Seen → Halt → Type 0
 ItemFails old new (halt.Decode (stop.Syntax p)) = (p ≤ new.offset) × Takes old new (Refuses Item)
+ItemFails old new (halt.Decode stop.End) = (new.offset ≡ old.offset → IfKnown old.left IsNothing) × BeginsNone Item old.left
 ItemFails old new (halt.Decode stop.Cut) = BeginsNone Item old.left
 ItemFails old new (halt.Decode stop.Deep) = Unit {0}
 ItemFails old new (halt.Decode stop.Input) = Unit {0}

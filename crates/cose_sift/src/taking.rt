@@ -28,7 +28,9 @@ const PIECE: usize = 64;
 pub enum Stop {
     /// The byte at this offset, or the head there, is in no item.
     Syntax(usize),
-    /// The input ends in the item, or before it.
+    /// The input ends before a head.
+    End,
+    /// The input ends in a head, or in a string.
     Cut,
     /// More open items lie inside one another, or more items are due, than are counted.
     Deep,
@@ -52,14 +54,14 @@ pub struct Taking {
     max: usize,
 }
 
-/// Why a read failed.
-fn read_fault<R: Read>(error: Error<R::Error>) -> Stop
-    ensures { result ≡ stop_of R.ends error }
+/// Why a read failed; `end` if the input ended.
+fn read_fault<R: Read>(error: Error<R::Error>, end: Stop) -> Stop
+    ensures { result ≡ stop_of R.ends «end» error }
 {
     match error {
         Error::Io(e) => {
             if R::is_end(&e) {
-                Stop::Cut
+                end
             } else {
                 Stop::Input
             }
@@ -130,13 +132,13 @@ fn take_head<R: Read>(decoder: &mut Decoder<R>, title: &mut Vec<u8>) -> Result<H
     let mut first = [0; 1];
     match decoder.read_exact(&mut first) {
         Ok(()) => {}
-        Err(error) => return Err(read_fault::<R>(error)),
+        Err(error) => return Err(read_fault::<R>(error, Stop::End)),
     }
     let mut rest = [0; 8];
     let rest = &mut rest[..bytes_after(first[0])];
     match decoder.read_exact(rest) {
         Ok(()) => {}
-        Err(error) => return Err(read_fault::<R>(error)),
+        Err(error) => return Err(read_fault::<R>(error, Stop::Cut)),
     }
     if title.extend_from_slice(&first).is_err() || title.extend_from_slice(rest).is_err() {
         return Err(Stop::Memory);
@@ -153,6 +155,7 @@ impl Taking {
         ensures starts { Goes Item (due_by result) [] }
         ensures due { IsDue result }
         ensures held { Held result [] }
+        ensures max { result.max ≡ «max» }
     {
         Taking {
             walk: Walk::new(alloc, LEVELS.saturating_add(max / LEVEL)),
@@ -269,7 +272,7 @@ impl Taking {
         let piece = &mut piece[..len];
         match decoder.read_exact(piece) {
             Ok(()) => {}
-            Err(error) => return Err(read_fault::<R>(error)),
+            Err(error) => return Err(read_fault::<R>(error, Stop::Cut)),
         }
         self.body -= len as u64;
         self.keep(piece)
