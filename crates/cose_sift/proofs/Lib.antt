@@ -4,3 +4,4 @@ pub mod Takes
 pub mod Readable
 pub mod TakenItem
 pub mod ReadItem
+pub mod Sieve

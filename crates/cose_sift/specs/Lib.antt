@@ -2,3 +2,4 @@ pub mod Grammar
 pub mod Walking
 pub mod Taking
 pub mod Reading
+pub mod Sifting

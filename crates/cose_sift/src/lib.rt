@@ -4,10 +4,12 @@
 mod items;
 pub mod laws;
 mod reading;
+mod sifting;
 mod taking;
 mod walk;
 
 pub use crate::items::{Halt, take_item};
 pub use crate::reading::is_readable;
+pub use crate::sifting::{Counts, sift};
 pub use crate::taking::{Stop, Taking};
 pub use crate::walk::{Fault, Walk};

@@ -59,13 +59,7 @@ fn read_fault<R: Read>(error: Error<R::Error>, end: Stop) -> Stop
     ensures { result ≡ stop_of R.ends «end» error }
 {
     match error {
-        Error::Io(e) => {
-            if R::is_end(&e) {
-                end
-            } else {
-                Stop::Input
-            }
-        }
+        Error::Io(e) => { if R::is_end(&e) { end } else { Stop::Input } }
         Error::Syntax(at) => Stop::Syntax(at),
         Error::TooLong => Stop::TooLong,
         Error::Waiting => Stop::Input,
