@@ -1,5 +1,5 @@
 -- What is written of the items of a sequence.
-use Rattle.std.specs.Prelude.{ℕ, ◌+◌, ◌≤◌, ◌⊎◌, List, [], ◌++◌, length, Option}
+use Rattle.std.specs.Prelude.{ℕ, ◌+◌, ◌≤◌, ◌⊎◌, List, [], ◌++◌, length, Option, Result, Ok, Err, nat_eq, if◌then◌else◌}
 use Rattle.std.specs.Io.KnownBytes.{Keeps, Appends}
 use Rattle.ciborium_ll.specs.Device.{AppendsFront}
 use Rattle.ciborium_ll.specs.Seen.{Seen, Takes}
@@ -25,6 +25,11 @@ Writes max w w' counts b = (out : List ℕ) × Sifted max b out counts.sifted co
 abbrev pub HaltsAt : (old new : Seen) (w w' : Option (List ℕ)) → Halt → Type 0
 HaltsAt old new w w' (halt.Decode s) = ItemFails old new (halt.Decode s) × Keeps w w'
 HaltsAt old new w w' halt.Write = Keeps w w' ⊎ Takes old new (λ x. IsReadable x × AppendsFront w w' x)
+
+-- 0 if no item was left out, 1 if some were, and 4 if the run stopped
+abbrev pub status_of : Result Counts Halt → ℕ
+status_of (Ok c) = if nat_eq c.dropped 0 then 0 else 1
+status_of (Err h) = 4
 
 -- items were taken, what is written of them was, and then it stopped
 pub record Halts (max : ℕ) (old new : Seen) (w w' : Option (List ℕ)) (h : Halt) : Type 0 where

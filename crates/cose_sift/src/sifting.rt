@@ -12,6 +12,7 @@ ghost use Rattle.cose_sift.specs.declared.items.Halt.TheVariants as halt;
 ghost use Rattle.cose_sift.specs.declared.taking.Stop.TheVariants as stop;
 
 use crate::items::{Halt, take_item};
+use crate::lines::write_left_out;
 use crate::reading::is_readable;
 use crate::taking::{Stop, Taking};
 use ciborium_ll::{Decoder, Read, Write};
@@ -88,7 +89,8 @@ fn pass<W: Write>(alloc: Global, item: &[u8], out: &mut W) -> Result<bool, Halt>
     }
 }
 
-/// Writes the items that can be read and have no more than `max` bytes, in order, byte for byte.
+/// Writes the items that can be read and have no more than `max` bytes, in order, byte for byte,
+/// and a line for each of the others. Before it waits for input it flushes.
 ///
 /// # Errors
 /// `Decode` if no item goes on where the input isn't at its end, and `Write`.
@@ -123,6 +125,9 @@ pub fn sift<R: Read, W: Write, E: Write>(
             },
             None => false,
         };
+        if !is_sifted {
+            write_left_out(at, taking.bytes().is_none(), lines);
+        }
         match counts.and(is_sifted) {
             Ok(more) => counts = more,
             Err(halt) => return Err(halt),
