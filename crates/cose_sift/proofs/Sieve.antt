@@ -1,0 +1,109 @@
+-- Items that were sifted one after another.
+use Rattle.std.proofs.Common.{◌≡◌, ℕ, ◌+◌, ◌≤◌, ◌<◌, List, [], ◌++◌, length, Bool, true, false, MatchBool, Option, Some, None, ◌⊎◌, inl, inr, Result, Ok, Err, IfOk, IfErr, refl, sym, subst, ◌∙◌, append-nil, arith}
+use Rattle.std.specs.Io.KnownBytes.{Keeps, Appends, Consumes}
+use Rattle.std.proofs.KnownBytes.{Keeps-refl, Appends-nil, Appends-trans, Appends-kept}
+use Rattle.ciborium_ll.specs.Device.{AppendsFront}
+use Rattle.ciborium_ll.specs.Seen.{Seen, Takes}
+use Rattle.ciborium.proofs.Taking.{takes_then, takes_as, takes_none}
+use Rattle.cose_sift.specs.declared.items.Halt.{Halt}
+use Rattle.cose_sift.specs.declared.items.Halt.TheVariants as halt
+use Rattle.cose_sift.specs.declared.taking.Stop.TheVariants as stop
+use Rattle.cose_sift.specs.declared.taking.Taking.{Taking}
+use Rattle.cose_sift.specs.declared.sifting.Counts.{Counts}
+use Rattle.cose_sift.specs.Reading.{IsReadable}
+use Rattle.cose_sift.specs.Sifting.{nothing, kept, dropped, Writes, HaltsAt, Halts}
+use Rattle.cose_sift.specs.Taking.{Held, IfKnown, ItemFails}
+use Rattle.cose_sift.specs.Walking.{IsOne, IsNothing}
+
+-- so far
+pub record Ran (max : ℕ) (old new : Seen) (w w' : Option (List ℕ)) (c : Counts) : Type 0 where
+  pub taken : Takes old new (Writes max w w' c)
+
+pub ran_none : (max : ℕ) (old : Seen) (w : Option (List ℕ)) (c : Counts) → c.sifted ≡ 0 → c.dropped ≡ 0 → Ran max old old w w c
+ran_none max old w c n k = record { taken = takes_none old.left old.offset (Writes max w w c) ([], rw (n, k) nothing, Appends-nil w) }
+
+-- the item is written
+pub ran_kept : (max : ℕ) (old mid new : Seen) (w v u : Option (List ℕ)) (c d : Counts) (x : List ℕ) → Ran max old mid w v c → Takes mid new (λ y. (y ≡ x) × IsOne y × length y ≤ max)
+    → IsReadable x → Appends v u x → d.sifted ≡ c.sifted + 1 → d.dropped ≡ c.dropped → Ran max old new w u d
+ran_kept max old mid new w v u c d x r t is a n k = record {
+  taken = takes_then old.left mid.left new.left old.offset mid.offset new.offset _ _ (Writes max w u d) r.taken t (λ b y p q.
+      (p.0 ++ y, rw (n, k) (kept b p.0 y c.sifted c.dropped p.1 q.1 q.2 (subst IsReadable (sym q.0) is)), Appends-trans w v u p.0 y p.2 (subst (Appends v u) (sym q.0) a)));
+}
+
+-- the item is left out
+pub ran_dropped : (max : ℕ) (old mid new : Seen) (w v u : Option (List ℕ)) (c d : Counts) → Ran max old mid w v c → Takes mid new (λ y. IsOne y × (length y ≤ max → IsReadable y → ⊥))
+    → Keeps v u → d.sifted ≡ c.sifted → d.dropped ≡ c.dropped + 1 → Ran max old new w u d
+ran_dropped max old mid new w v u c d r t a n k = record {
+  taken = takes_then old.left mid.left new.left old.offset mid.offset new.offset _ _ (Writes max w u d) r.taken t (λ b y p q.
+      (p.0, rw (n, k) (dropped b p.0 y c.sifted c.dropped p.1 q.0 q.1), Appends-kept w v u p.0 p.2 a));
+}
+
+-- the end of the input
+pub ran_whole : (max : ℕ) (left mid : Option (List ℕ)) (w u : Option (List ℕ)) (c : Counts) (x : List ℕ) → Consumes left mid x → Writes max w u c x → IfKnown mid IsNothing → IfKnown left (Writes max w u c)
+ran_whole max None mid w u c x t p e = tt
+ran_whole max (Some b) None w u c x t p e = absurd t
+ran_whole max (Some b) (Some r) w u c x t p e = subst (Writes max w u c) (sym (t ∙ subst (λ z. x ++ r ≡ x ++ z) e refl ∙ append-nil x)) p
+
+pub ran_end : (max : ℕ) (old mid new : Seen) (w v u : Option (List ℕ)) (c d : Counts) (h : Halt) → Ran max old mid w v c → Keeps v u → ItemFails mid new h → h ≡ halt.Decode stop.End → new.offset ≡ mid.offset → d ≡ c → IfKnown old.left (Writes max w u d)
+ran_end max old mid new w v u c d h r k f is same e =
+    rw e (ran_whole max old.left mid.left w u c r.taken.bytes r.taken.taken (r.taken.has.0, r.taken.has.1, Appends-kept w v u r.taken.has.0 r.taken.has.2 k) ((subst (ItemFails mid new) is f).0 same))
+
+halts_at : (mid new : Seen) (v u : Option (List ℕ)) (h : Halt) → ItemFails mid new h → Keeps v u → HaltsAt mid new v u h
+halts_at mid new v u (halt.Decode s) f k = (f, k)
+halts_at mid new v u halt.Write f k = inl k
+
+pub ran_halts : (max : ℕ) (old mid new : Seen) (w v u : Option (List ℕ)) (c : Counts) (h : Halt) → Ran max old mid w v c → ItemFails mid new h → Keeps v u → Halts max old new w u h
+ran_halts max old mid new w v u c h r f k = record { mid = mid; written = v; counts = c; before = r.taken; why = halts_at mid new v u h f k }
+
+pub ran_memory : (max : ℕ) (old mid new : Seen) (w v u : Option (List ℕ)) (c : Counts) (h : Halt) (x : List ℕ) → Ran max old mid w v c → Takes mid new (λ y. (y ≡ x) × IsOne y × length y ≤ max)
+    → ((h ≡ halt.Decode stop.Memory) × Keeps v u) ⊎ ((h ≡ halt.Write) × IsReadable x × AppendsFront v u x) → Halts max old new w u h
+ran_memory max old mid new w v u c h x r t (inl m) = ran_halts max old mid new w v u c h r (subst (ItemFails mid new) (sym m.0) tt) m.1
+ran_memory max old mid new w v u c h x r t (inr f) = record {
+  mid = mid;
+  written = v;
+  counts = c;
+  before = r.taken;
+  why = subst (HaltsAt mid new v u) (sym f.0) (inr (takes_as mid.left new.left mid.offset new.offset _ _ t (λ y p. (subst IsReadable (sym p.0) f.1, subst (AppendsFront v u) (sym p.0) f.2))));
+}
+
+-- what was kept of the item
+held_all : (t : Taking) (x : List ℕ) → t.is_long ≡ false → Held t x → (t.bytes.items ≡ x) × (length x ≤ t.max)
+held_all t x e h = subst (λ z. MatchBool z (t.max < length x) ((t.bytes.items ≡ x) × (length x ≤ t.max))) e h
+
+pub taken_all : (max : ℕ) (mid new : Seen) (t : Taking) (b : List ℕ) → t.is_long ≡ false → b ≡ t.bytes.items → t.max ≡ max → Takes mid new (λ x. IsOne x × Held t x) → Takes mid new (λ y. (y ≡ b) × IsOne y × length y ≤ max)
+taken_all max mid new t b e is m k = takes_as mid.left new.left mid.offset new.offset _ _ k (λ y p. let h = held_all t y e p.1 in (sym (is ∙ h.0), p.0, subst (λ (z : ℕ). length y ≤ z) m h.1))
+
+pub is_one : (mid new : Seen) (max : ℕ) (b : List ℕ) → Takes mid new (λ y. (y ≡ b) × IsOne y × length y ≤ max) → IsOne b
+is_one mid new max b t = subst IsOne t.has.0 t.has.1
+
+pub taken_long : (max : ℕ) (mid new : Seen) (t : Taking) → t.is_long ≡ true → t.max ≡ max → Takes mid new (λ x. IsOne x × Held t x) → Takes mid new (λ y. IsOne y × (length y ≤ max → IsReadable y → ⊥))
+taken_long max mid new t e m k = takes_as mid.left new.left mid.offset new.offset _ _ k (λ y p.
+    let h : t.max < length y = subst (λ z. MatchBool z (t.max < length y) ((t.bytes.items ≡ y) × (length y ≤ t.max))) e p.1 in (p.0, λ le r. absurd (omega arith)))
+
+pub taken_unread : (max : ℕ) (mid new : Seen) (b : List ℕ) → (IsReadable b → ⊥) → Takes mid new (λ y. (y ≡ b) × IsOne y × length y ≤ max) → Takes mid new (λ y. IsOne y × (length y ≤ max → IsReadable y → ⊥))
+taken_unread max mid new b unread t = takes_as mid.left new.left mid.offset new.offset _ _ t (λ y p. (p.1, λ le r. unread (subst IsReadable p.0 r)))
+
+pub ran_on : (max : ℕ) (old mid : Seen) (w v u : Option (List ℕ)) (c : Counts) → Ran max old mid w v c → Keeps v u → Ran max old mid w u c
+ran_on max old mid w v u c r k = record { taken = takes_as old.left mid.left old.offset mid.offset _ _ r.taken (λ x p. (p.0, p.1, Appends-kept w v u p.0 p.2 k)) }
+
+pub ran_passed : (max : ℕ) (old mid new : Seen) (w v u : Option (List ℕ)) (c d : Counts) (b : List ℕ) (yes : Bool) → Ran max old mid w v c → Takes mid new (λ y. (y ≡ b) × IsOne y × length y ≤ max)
+    → MatchBool yes (IsReadable b × Appends v u b) ((IsReadable b → ⊥) × Keeps v u)
+    → MatchBool yes ((d.sifted ≡ c.sifted + 1) × (d.dropped ≡ c.dropped)) ((d.sifted ≡ c.sifted) × (d.dropped ≡ c.dropped + 1)) → Ran max old new w u d
+ran_passed max old mid new w v u c d b true r t p n = ran_kept max old mid new w v u c d b r t p.0 p.1 n.0 n.1
+ran_passed max old mid new w v u c d b false r t p n = ran_dropped max old mid new w v u c d r (taken_unread max mid new b p.0 t) p.1 n.0 n.1
+
+-- the same if no more is counted
+pub ran_uncounted : (max : ℕ) (old mid new : Seen) (w v u : Option (List ℕ)) (c : Counts) (h : Halt) (b : List ℕ) (yes : Bool) → Ran max old mid w v c → Takes mid new (λ y. (y ≡ b) × IsOne y × length y ≤ max)
+    → MatchBool yes (IsReadable b × Appends v u b) ((IsReadable b → ⊥) × Keeps v u) → h ≡ halt.Decode stop.TooLong → Halts max old new w u h
+ran_uncounted max old mid new w v u c h b true r t p e =
+    let d : Counts = record { sifted = c.sifted + 1; dropped = c.dropped } in
+    ran_halts max old new new w u u d h (ran_kept max old mid new w v u c d b r t p.0 p.1 refl refl) (subst (ItemFails new new) (sym e) tt) (Keeps-refl u)
+ran_uncounted max old mid new w v u c h b false r t p e = ran_halts max old mid new w v u c h r (subst (ItemFails mid new) (sym e) tt) p.1
+
+pub if_ok_as : (P Q : Counts → Type 0) (r : Result Counts Halt) → IfOk r P → ((d : Counts) → P d → Q d) → IfOk r Q
+if_ok_as P Q (Ok d) p f = f d p
+if_ok_as P Q (Err h) p f = tt
+
+pub if_err_is : (Q : Halt → Type 0) (r : Result Counts Halt) (h : Halt) → IfErr r (λ e. e ≡ h) → Q h → IfErr r Q
+if_err_is Q (Ok d) h p q = tt
+if_err_is Q (Err e) h p q = subst Q (sym p) q

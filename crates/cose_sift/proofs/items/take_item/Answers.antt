@@ -1,0 +1,26 @@
+use Rattle.std.proofs.KnownBytes.{Keeps-trans}
+use Rattle.ciborium_ll.specs.Views.{seen}
+use Rattle.cose_sift.proofs.TakenItem.{begun_step, begun_done, begun_fails, halted}
+use Rattle.cose_sift.proofs.items.take_item.Goals as goal
+use Rattle.std.proofs.Common.{◌∙◌}
+
+pub steps-preserved : goal.steps-preserved
+steps-preserved g c = record {
+  begun = begun_step (seen g.R.Read c.args.decoder.now) (seen g.R.Read c.steps.decoder) (seen g.R.Read c.step.new.decoder) c.steps.taking c.step.new.self c.steps.invariant.begun c.in-Ok-step.ensures.ok;
+  due = c.is_done.ensures.due c.if-is_done.false;
+  fresh = c.in-Ok-step.ensures.fresh;
+  out = Keeps-trans _ _ _ c.steps.invariant.out c.hand_on.ensures.out;
+  lines = Keeps-trans _ _ _ c.steps.invariant.lines c.hand_on.ensures.lines;
+  max = c.in-Ok-step.ensures.max ∙ c.steps.invariant.max;
+}
+
+pub returns-then-is_done-clause-ok : goal.returns-then-is_done-clause-ok
+returns-then-is_done-clause-ok g c =
+    let b = begun_step (seen g.R.Read c.args.decoder.now) (seen g.R.Read c.steps.decoder) (seen g.R.Read c.step.new.decoder) c.steps.taking c.step.new.self c.steps.invariant.begun c.in-Ok-step.ensures.ok in
+    begun_done (seen g.R.Read c.args.decoder.now) (seen g.R.Read c.step.new.decoder) c.step.new.self b (c.is_done.ensures.done c.if-is_done.true)
+
+pub returns-in-Err-step-clause-err : goal.returns-in-Err-step-clause-err
+returns-in-Err-step-clause-err g c = begun_fails (seen g.R.Read c.args.decoder.now) (seen g.R.Read c.steps.decoder) (seen g.R.Read c.step.new.decoder) c.steps.taking c.in-Err-step.stop c.steps.invariant.begun c.in-Err-step.ensures.err
+
+pub returns-in-Err-clause-err : goal.returns-in-Err-clause-err
+returns-in-Err-clause-err g c = halted (seen g.R.Read c.args.decoder.now) (seen g.R.Read c.steps.decoder) c.in-Err.halt c.in-Err.ensures.err

@@ -1,0 +1,7 @@
+use Rattle.std.proofs.Common.{[]}
+use Rattle.cose_sift.proofs.Going.{goes_to}
+use Rattle.cose_sift.proofs.Steps.{no_body, only_rest}
+use Rattle.cose_sift.proofs.taking.Taking.restart.Goals as goal
+
+pub returns-clause-starts : goal.returns-clause-starts
+returns-clause-starts c = goes_to _ _ _ [] c.restart.ensures.starts (no_body _) (only_rest _)

@@ -1,0 +1,9 @@
+use Rattle.std.proofs.lemmas.Result.{on_ok_weaker}
+use Rattle.cose_sift.proofs.Steps.{agrees_goes, agrees_refuses, syntax_weaker}
+use Rattle.cose_sift.proofs.walk.Walk.take.Goals as goal
+
+pub returns-clause-ok : goal.returns-clause-ok
+returns-clause-ok c = on_ok_weaker c.take_item-2.result (λ f title t. agrees_goes _ _ _ title (c.in_ok-begin.ensures.ok title t) (f title t)) c.take_item-2.ensures.ok
+
+pub returns-clause-syntax : goal.returns-clause-syntax
+returns-clause-syntax c = syntax_weaker c.take_item-2.result (λ f title t. agrees_refuses _ _ title (c.in_ok-begin.ensures.ok title t) (f title t)) c.take_item-2.ensures.syntax

@@ -1,0 +1,21 @@
+use Rattle.std.proofs.Common.{reverse}
+use Rattle.std.proofs.lemmas.Result.{on_ok_weaker}
+use Rattle.cose_sift.specs.Grammar.{IsNext}
+use Rattle.cose_sift.specs.declared.walk.Next.TheVariants as next
+use Rattle.cose_sift.proofs.Steps.{takes_stated, takes_open, break_untaken}
+use Rattle.cose_sift.proofs.walk.Walk.take_item.Goals as goal
+
+pub returns-in-Some-Items-clause-ok : goal.returns-in-Some-Items-clause-ok
+returns-in-Some-Items-clause-ok c =
+    let is : IsNext c.args.header (next.Items c.in-Some-Items.n) = rw c.in-Some-Items.field-0-is at c.in-Some-Items.ensures in
+    on_ok_weaker c.add.result (λ due. rw (c.add.ensures.holds, c.add.ensures.levels) (λ title t. takes_stated c.args.self.now.holds c.args.self.now.due c.in-Some-Items.n c.add.new.self.due (reverse c.args.self.now.levels.items) c.args.header title c.requires due is t)) c.add.ensures.due
+
+pub returns-in-Some-Open-clause-ok : goal.returns-in-Some-Open-clause-ok
+returns-in-Some-Open-clause-ok c =
+    let is : IsNext c.args.header (next.Open c.in-Some-Open.holds) = rw c.in-Some-Open.field-0-is at c.in-Some-Open.ensures in
+    on_ok_weaker c.open.result (λ s title t. takes_open c.args.self.now.holds c.open.new.self.holds c.in-Some-Open.holds c.args.self.now.due c.open.new.self.due (reverse c.args.self.now.levels.items) (reverse c.open.new.self.levels.items) c.args.header title c.requires s.0 s.1 s.2 is t) c.open.ensures.ok
+
+pub returns-in-Some-Nothing-clause-syntax : goal.returns-in-Some-Nothing-clause-syntax
+returns-in-Some-Nothing-clause-syntax c =
+    let is : IsNext c.args.header next.Nothing = rw c.in-Some-Nothing.field-0-is at c.in-Some-Nothing.ensures in
+    λ title t. break_untaken c.args.self.now.holds c.args.self.now.due (reverse c.args.self.now.levels.items) c.args.header title c.requires is t

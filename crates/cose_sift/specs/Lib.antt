@@ -1,0 +1,5 @@
+pub mod Grammar
+pub mod Walking
+pub mod Taking
+pub mod Reading
+pub mod Sifting

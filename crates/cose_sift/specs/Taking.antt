@@ -1,0 +1,80 @@
+-- An item that is taken head by head.
+use Rattle.std.specs.Prelude.{◌≡◌, ℕ, ◌<◌, ◌≤◌, List, ◌++◌, length, MatchBool, Bool, if◌then◌else◌, Option, Some, None}
+use Rattle.ciborium_ll.specs.Seen.{Seen, Takes}
+use Rattle.ciborium_ll.specs.Title.{IsCut, StartsBad}
+use Rattle.ciborium_ll.specs.declared.hdr.Error.{Error}
+use Rattle.ciborium_ll.specs.declared.hdr.Error.TheVariants as code
+use Rattle.cose_sift.specs.declared.items.Halt.{Halt}
+use Rattle.cose_sift.specs.declared.items.Halt.TheVariants as halt
+use Rattle.cose_sift.specs.declared.taking.Stop.{Stop}
+use Rattle.cose_sift.specs.declared.taking.Stop.TheVariants as stop
+use Rattle.cose_sift.specs.declared.taking.Taking.{Taking}
+use Rattle.cose_sift.specs.declared.walk.Fault.{Fault}
+use Rattle.cose_sift.specs.declared.walk.Fault.TheVariants as fault
+use Rattle.cose_sift.specs.Grammar.{Item}
+use Rattle.cose_sift.specs.Walking.{Then, Long, Refuses, IsNothing, wanted_by}
+use Rattle.cose_sift.specs.Walking.{IsDue as IsWalking}
+
+-- what is due of the item
+abbrev pub due_by : Taking → List ℕ → Type 0
+due_by t = Then (Long t.body) (wanted_by t.walk)
+
+abbrev pub IsDue : Taking → Type 0
+IsDue t = t.body ≡ 0 → IsWalking t.walk
+
+-- the bytes that are kept of `x`: all, or none if they are more than the most
+abbrev pub Held : Taking → List ℕ → Type 0
+Held t x = MatchBool t.is_long (t.max < length x) ((t.bytes.items ≡ x) × (length x ≤ t.max))
+
+-- no bytes that begin what is to come are P, if that is known
+abbrev pub BeginsNone : (List ℕ → Type 0) → Option (List ℕ) → Type 0
+BeginsNone P None = Unit {0}
+BeginsNone P (Some b) = (i behind : List ℕ) → P i → i ++ behind ≡ b → ⊥
+
+abbrev pub IfKnown : Option (List ℕ) → (List ℕ → Type 0) → Type 0
+IfKnown None P = Unit {0}
+IfKnown (Some b) P = P b
+
+-- why a read failed; `end` if the input ended
+abbrev pub stop_of : {E : Type 0} → (E → Bool) → Stop → Error E → Stop
+stop_of ends end (code.Io e) = if ends e then end else stop.Input
+stop_of ends end (code.Syntax p) = stop.Syntax p
+stop_of ends end code.TooLong = stop.TooLong
+stop_of ends end code.Waiting = stop.Input
+
+-- why the walk stopped at a head
+abbrev pub stopped_at : ℕ → Fault → Stop
+stopped_at at fault.Syntax = stop.Syntax at
+stopped_at at fault.Deep = stop.Deep
+stopped_at at fault.Memory = stop.Memory
+
+-- why a head wasn't taken
+abbrev pub HeadFails : Seen → Seen → Stop → Type 0
+HeadFails old new (stop.Syntax p) = (p ≡ old.offset) × Takes old new StartsBad
+HeadFails old new stop.End = (new.offset ≡ old.offset) × IfKnown old.left IsNothing
+HeadFails old new stop.Cut = IfKnown old.left IsCut
+HeadFails old new stop.Deep = ⊥
+HeadFails old new stop.Input = Unit {0}
+HeadFails old new stop.TooLong = Unit {0}
+HeadFails old new stop.Memory = Unit {0}
+
+-- why an item of which P is due doesn't go on
+abbrev pub StepFails : (List ℕ → Type 0) → Seen → Seen → Stop → Type 0
+StepFails P old new (stop.Syntax p) = (p ≡ old.offset) × Takes old new (Refuses P)
+StepFails P old new stop.End = (new.offset ≡ old.offset) × IfKnown old.left IsNothing × BeginsNone P old.left
+StepFails P old new stop.Cut = BeginsNone P old.left
+StepFails P old new stop.Deep = Unit {0}
+StepFails P old new stop.Input = Unit {0}
+StepFails P old new stop.TooLong = Unit {0}
+StepFails P old new stop.Memory = Unit {0}
+
+-- why no item was taken; the input was at its end if it ends before a head and nothing was taken
+abbrev pub ItemFails : Seen → Seen → Halt → Type 0
+ItemFails old new (halt.Decode (stop.Syntax p)) = (p ≤ new.offset) × Takes old new (Refuses Item)
+ItemFails old new (halt.Decode stop.End) = (new.offset ≡ old.offset → IfKnown old.left IsNothing) × BeginsNone Item old.left
+ItemFails old new (halt.Decode stop.Cut) = BeginsNone Item old.left
+ItemFails old new (halt.Decode stop.Deep) = Unit {0}
+ItemFails old new (halt.Decode stop.Input) = Unit {0}
+ItemFails old new (halt.Decode stop.TooLong) = Unit {0}
+ItemFails old new (halt.Decode stop.Memory) = Unit {0}
+ItemFails old new halt.Write = Unit {0}
