@@ -1,0 +1,100 @@
+//! `cose-sift [--max BYTES]`: reads a CBOR sequence from standard input, and writes the items that
+//! the gate can read to standard output, byte for byte, so that one that it can't read doesn't stop
+//! it.
+#![tactic(auto)]
+
+mod items;
+mod laws;
+mod lines;
+mod reading;
+mod sifting;
+mod taking;
+mod walk;
+
+use crate::items::Halt;
+use crate::lines::write_end;
+use crate::sifting::{Counts, sift};
+use ciborium_ll::{Decoder, Io, Write};
+use cose_gate_command::{
+    NotRun, asks_for_help, asks_for_version, ended, read_in_blocks, words_of, write_help,
+    write_in_blocks,
+};
+use cose_gate_program::{Blocks, has_stack};
+use std::env;
+use std::process::ExitCode;
+
+/// An item of more bytes is left out, if no other number is given.
+const MAX: usize = 1_048_576;
+
+/// The line for other arguments.
+const USAGE: &str = "usage: cose-sift [--max BYTES] < INPUT > SIFTED\n";
+
+/// What `--version` prints.
+const VERSION: &str = "cose-sift 0.8\n";
+
+/// What `-h` and `--help` print. The script `cose-sift` prints the same.
+const HELP: &str = "\
+usage: cose-sift [--max BYTES] < INPUT > SIFTED
+Reads a CBOR sequence, and writes the items that cose-gate can read, byte for byte.
+Any other item is left out, and so is one of more than BYTES bytes (1048576 if it is
+left out), of which nothing is held.
+On standard error: a line for each item that is left out, and at the end how many were
+written and left out. What is written is out before the program waits for input.
+Status 0: no item was left out. 1: some were. 2: wrong arguments. 4: some bytes begin no
+item or end inside one, input or output failed, or it is out of memory.
+";
+
+fn main(rt: HostRuntime) -> ExitCode {
+    ExitCode::from(ended(start(&rt), USAGE, &mut rt.stderr()))
+}
+
+/// Runs the program, and returns its status.
+fn start(rt: &HostRuntime) -> Result<u8, NotRun> {
+    let words = words_of(rt.alloc(), env::args(rt))?;
+    if !has_stack(words.len()) {
+        return Err(NotRun::Memory);
+    }
+    if asks_for_help(words.as_slice()) {
+        return write_help(HELP, &mut rt.stdout());
+    }
+    if asks_for_version(words.as_slice()) {
+        return write_help(VERSION, &mut rt.stdout());
+    }
+    match max_of(words.as_slice()) {
+        Some(max) => run(rt, max),
+        None => Err(NotRun::Usage),
+    }
+}
+
+/// How many bytes an item may have by these arguments; `None` if they are others.
+fn max_of(words: &[String]) -> Option<usize> {
+    match words {
+        [] => Some(MAX),
+        [option, digits] if option.as_str() == "--max" => digits.as_str().parse::<usize>().ok(),
+        _ => None,
+    }
+}
+
+/// The run over the standard streams.
+fn run(rt: &HostRuntime, max: usize) -> Result<u8, NotRun> {
+    let alloc = rt.alloc();
+    let input = read_in_blocks(alloc, rt.stdin())?;
+    let mut output = write_in_blocks(alloc, rt.stdout())?;
+    let mut lines = write_in_blocks(alloc, rt.stderr())?;
+    let mut decoder = Decoder::from(Blocks::new(input));
+    let mut out = Io::new(&mut output);
+    let mut told = Io::new(&mut lines);
+    let end = sift(alloc, max, &mut decoder, &mut out, &mut told);
+    let status = write_end(flushed(end, &mut out), &mut told);
+    // What a flush that failed has left isn't written as the program ends.
+    let _ = (output.into_parts(), lines.into_parts());
+    Ok(status)
+}
+
+/// How a run ended whose output is flushed now.
+fn flushed<W: Write>(end: Result<Counts, Halt>, out: &mut W) -> Result<Counts, Halt> {
+    match out.flush() {
+        Ok(()) => end,
+        Err(_) => Err(Halt::Write),
+    }
+}
