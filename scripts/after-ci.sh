@@ -44,6 +44,10 @@ rows() {
 2|/dev/null|usage: cose-pass [--strict] ACCEPTED [AADHEX]|cose-pass --strikt /dev/null < one.cbor
 2|/dev/null|usage: cose-pass [--strict] ACCEPTED [AADHEX]|cose-pass /dev/null $'\xff' < one.cbor
 2|/dev/null|usage: cose-pass [--strict] ACCEPTED [AADHEX]|../cose-pass
+0|||cose-sift --help | cmp - <(../cose-sift --help)
+2|/dev/null|usage: cose-sift [--max BYTES] < INPUT > SIFTED|cose-sift --max < one.cbor
+2|/dev/null|usage: cose-sift [--max BYTES] < INPUT > SIFTED|cose-sift --max 0x10 < one.cbor
+2|/dev/null|usage: cose-sift [--max BYTES] < INPUT > SIFTED|../cose-sift one.cbor
 2|/dev/null|       cose-show --cut SIZE DIR [FILE]|cose-show --strikt < one.cbor
 2|/dev/null|       cose-show --cut SIZE DIR [FILE]|cose-show $'\xff'
 2|/dev/null|       cose-show --cut SIZE DIR [FILE]|../cose-show --strikt
@@ -102,12 +106,22 @@ rows() {
 4|/dev/null|stopped: decode: Io|cose-ask 01 < .
 4|/dev/null|stopped: decode: Io|cose-pass $T/one.records 01 < .
 4|/dev/null|cose-show: the input can't be read|cose-show .
+4|/dev/null|stopped: decode: Io|cose-sift < .
+# the sieve in front of the gate
+0|mixed.cbor|sifted 9, dropped 0|cose-sift < mixed.cbor
+1|one.cbor|sifted 1, dropped 1|{ printf '\360'; cat one.cbor; } | cose-sift
+1|one.cbor|passed 1, refused 0|{ printf '\360'; cat one.cbor; } | cose-sift 2> /dev/null | cose-gate keys.cbor 01; [ $? = 0 ] && exit 1
+1|/dev/null|sifted 0, dropped 1|cose-sift --max 47 < one.cbor
+0|one.cbor|sifted 1, dropped 0|cose-sift --max 48 < one.cbor
+4|one.cbor|stopped: decode: Io(EndOfFile)|cose-sift < cut.cbor
+4|one.cbor|stopped: decode: Syntax(48)|{ cat one.cbor; printf '\377'; } | cose-sift
 # a full disk, and a pipe that nobody reads
 4||stopped: write|cose-gate keys.cbor 01 < one.cbor > /dev/full
 4||stopped: write|cose-gate keys.cbor 01 < $T/many > /dev/full
 4||stopped: write|cose-ask 01 < one.cbor > /dev/full
 4||stopped: write|cose-ask --lines 01 < one.cbor > /dev/full
 4||stopped: write|cose-pass $T/one.records 01 < one.cbor > /dev/full
+4||stopped: write|cose-sift < one.cbor > /dev/full
 4||cose-show: the output can't be written|cose-show one.cbor > /dev/full
 4||stopped: write|cose-gate keys.cbor 01 < one.cbor >&4
 4||stopped: write|cose-ask 01 < one.cbor >&4
@@ -155,7 +169,7 @@ END
 go_through() {
   local status output last command found line
   rm -rf "$T" && mkdir -p "$T/bin" && mkfifo "$T/pipe" && exec 3<> "$T/pipe" 4> "$T/pipe" 3>&- || return
-  for it in gate:cose_gate_cli ask:cose_ask_cli pass:cose_pass_cli show:cose_show; do
+  for it in gate:cose_gate_cli ask:cose_ask_cli pass:cose_pass_cli sift:cose_sift show:cose_show; do
     install "$CRATES/${it#*:}/out/${it#*:}$1" "$T/bin/cose-${it%%:*}" || return
   done
   touch "$T/unreadable" && chmod 0 "$T/unreadable"

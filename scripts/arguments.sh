@@ -1,14 +1,9 @@
-# arguments.sh: for the scripts cose-gate, cose-show, cose-ask and cose-pass: what they find in arguments before a program is built. To be
+# arguments.sh: for the scripts cose-gate, cose-show, cose-ask, cose-pass and cose-sift: what they find in arguments before a program is built. To be
 # sourced, with the top of the repository in $top.
 
 # The name of a program, the commit of the sources, and the kit.
 say_version() {
   echo "$1 (commit $(git -C "$top" rev-parse --short HEAD 2> /dev/null || echo unknown), $(rt version 2> /dev/null || echo 'no kit in PATH'))"
-}
-
-# Whether an argument is an option, and no file.
-is_option() {
-  [ "${1#-}" != "$1" ] && ! [ -e "$1" ]
 }
 
 # Ends with status 3 if a file can't be read: the program's own line NAME, and then why.
@@ -31,7 +26,6 @@ needs_file() {
 needs_hex() {
   [[ $1 =~ ^([0-9a-fA-F][0-9a-fA-F])*$ ]] && return
   echo "aad: not hex" >&2
-  is_option "$1" && echo "  $1: options come before the other arguments" >&2
   is_input "$1"
   exit 2
 }

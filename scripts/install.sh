@@ -1,5 +1,5 @@
 #!/usr/bin/env bash
-# scripts/install.sh [--library] PREFIX: puts the programs cose-gate, cose-ask, cose-pass and cose-show into PREFIX/bin, and the tools
+# scripts/install.sh [--library] PREFIX: puts the programs cose-gate, cose-ask, cose-pass, cose-sift and cose-show into PREFIX/bin, and the tools
 # cose-verify, cose-key and cose-make, in Python, into PREFIX/lib/cose-gate, with links in PREFIX/bin; their manual pages into
 # PREFIX/share/man/man1. With --library also the library for C: PREFIX/lib/libcose_gate.a, PREFIX/include/cose_gate.h and
 # PREFIX/lib/pkgconfig/cose_gate.pc, for `cc check.c $(pkg-config --cflags --libs cose_gate)`. Programs and library are proved and built
@@ -17,7 +17,7 @@ if [ $# -ne 1 ] || [ -z "$1" ] || [ "${1#-}" != "$1" ]; then
   exit 2
 fi
 prefix=$1
-programs="gate:cose_gate_cli ask:cose_ask_cli pass:cose_pass_cli show:cose_show"
+programs="gate:cose_gate_cli ask:cose_ask_cli pass:cose_pass_cli sift:cose_sift show:cose_show"
 
 for each in $programs; do
   name=cose-${each%%:*}

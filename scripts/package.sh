@@ -1,6 +1,6 @@
 #!/usr/bin/env bash
 # scripts/package.sh FOLDER: makes cose-gate_VERSION_amd64.deb and cose-gate_VERSION_amd64.tar.gz in FOLDER: the programs cose-gate, cose-ask,
-# cose-pass and cose-show as they were proved and built, the tools cose-verify, cose-key and cose-make, their manual pages, README, LICENSE
+# cose-pass, cose-sift and cose-show as they were proved and built, the tools cose-verify, cose-key and cose-make, their manual pages, README, LICENSE
 # and NOTICE. The programs are proved and built first if a source has changed; if that fails nothing is made, and the status is 70. VERSION is
 # the day of the last commit. The same commit gives the same bytes.
 set -eu
@@ -12,7 +12,7 @@ fi
 mkdir -p "$1"
 folder=$(cd "$1" && pwd)
 
-programs="gate:cose_gate_cli ask:cose_ask_cli pass:cose_pass_cli show:cose_show"
+programs="gate:cose_gate_cli ask:cose_ask_cli pass:cose_pass_cli sift:cose_sift show:cose_show"
 for each in $programs; do
   bash "$top/scripts/proved.sh" "cose-${each%%:*}" "${each#*:}" || exit
 done

@@ -93,6 +93,7 @@ def abi():
 def versions():
     newest = re.search(r"^## (\S+)$", text("CHANGELOG.md"), re.M)[1]
     for name, file in [("gate", "cose_gate_cli/src/main.rt"), ("ask", "cose_ask_cli/src/main.rt"), ("pass", "cose_pass_cli/src/main.rt"),
+                       ("sift", "cose_sift/src/main.rt"),
                        ("show", "cose_show_core/src/words.rt")]:
         same("--version says", [f"cose-{name} {newest}"], f"crates/{file}", found(f"crates/{file}", r'^const VERSION: &str = "(.*?)\\n";$'))
 

@@ -1,7 +1,7 @@
 #!/bin/sh
 # quotes.sh: says what the pages and the help quote otherwise than it is. Status 1 if there is anything.
 # - The blocks of Rattle on the pages are whole parts of the crate callers, of an example or of a test (scripts/quotes.py).
-# - The scripts cose-gate, cose-show, cose-ask and cose-pass have the help of their programs.
+# - The scripts cose-gate, cose-show, cose-ask, cose-pass and cose-sift have the help of their programs.
 # - What is said in several places is said in all of them (scripts/places.py).
 cd "$(dirname "$0")/.." || exit 2
 status=0
@@ -24,5 +24,6 @@ has_help cose-gate crates/cose_gate_cli/src/main.rt
 has_help cose-show crates/cose_show_core/src/words.rt
 has_help cose-ask crates/cose_ask_cli/src/main.rt
 has_help cose-pass crates/cose_pass_cli/src/main.rt
+has_help cose-sift crates/cose_sift/src/main.rt
 
 exit $status

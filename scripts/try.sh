@@ -1,5 +1,5 @@
 #!/usr/bin/env bash
-# scripts/try.sh PROGRAM ARGS..: builds cose-gate, cose-ask, cose-pass or cose-show without proving it, in about a minute, and runs it. Standard
+# scripts/try.sh PROGRAM ARGS..: builds cose-gate, cose-ask, cose-pass, cose-sift or cose-show without proving it, in about a minute, and runs it. Standard
 # input and output and the exit status are the program's; a line on standard error says that it is not proved. It is kept in out/unproved, and
 # built again if a source is newer. Of cose-verify the three programs that it runs are built so. scripts/try.sh --path PROGRAM builds it and
 # prints its path. Status 70 if the build fails.
@@ -16,10 +16,11 @@ fi
 name=${1-}
 case $name in
   cose-gate | cose-ask | cose-pass) crate=cose_${name#cose-}_cli ;;
+  cose-sift) crate=cose_sift ;;
   cose-show) crate=cose_show ;;
   cose-verify) ;;
   *)
-    echo "usage: scripts/try.sh [--path] PROGRAM ARGS.., and PROGRAM is cose-gate, cose-ask, cose-pass, cose-show or cose-verify" >&2
+    echo "usage: scripts/try.sh [--path] PROGRAM ARGS.., and PROGRAM is cose-gate, cose-ask, cose-pass, cose-sift, cose-show or cose-verify" >&2
     exit 2
     ;;
 esac

@@ -28,7 +28,7 @@ WORDS = {
         ("lines or a file of them", r"lines? of text|as text|is text|text has no|text or as|(claims|day\)), text, CBOR|JSON text"),
         ("what RFC 2104 calls so", r"cose_hmac"),
         ("a text string", r"(^README|ciborium|cbor_diag|coset_labels|cose_show|conformance_c|example_library|DECI|DEFI|DIFF|SCALE|TIMES"
-                          r"|PORT|CHANGELOG|capped|TOKENS|tools/|docs/cose-(key|make|verify)).*\btexts?\b"),
+                          r"|PORT|CHANGELOG|capped|TOKENS|tools/|docs/cose-(key|make|sift|verify)).*\btexts?\b"),
     ]),
     "stands?|stood": ("is, are", [("stands for something", r"stands? for|stands?$")]),
     "answer(s|ed|ing)?": ("returns", [
