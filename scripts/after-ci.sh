@@ -110,7 +110,7 @@ rows() {
 # the sieve in front of the gate
 0|mixed.cbor|sifted 9, dropped 0|cose-sift < mixed.cbor
 1|one.cbor|sifted 1, dropped 1|{ printf '\360'; cat one.cbor; } | cose-sift
-1|one.cbor|passed 1, refused 0|{ printf '\360'; cat one.cbor; } | cose-sift 2> /dev/null | cose-gate keys.cbor 01; [ $? = 0 ] && exit 1
+1|one.cbor|passed 1, refused 0|{ printf '\360'; cat one.cbor; } | cose-sift 2> /dev/null | cose-gate keys.cbor 01
 1|/dev/null|sifted 0, dropped 1|cose-sift --max 47 < one.cbor
 0|one.cbor|sifted 1, dropped 0|cose-sift --max 48 < one.cbor
 4|one.cbor|stopped: decode: Io(EndOfFile)|cose-sift < cut.cbor
