@@ -47,7 +47,7 @@ rows() {
 0|||cose-sift --help | cmp - <(../cose-sift --help)
 2|/dev/null|usage: cose-sift [--max BYTES] < INPUT > SIFTED|cose-sift --max < one.cbor
 2|/dev/null|usage: cose-sift [--max BYTES] < INPUT > SIFTED|cose-sift --max 0x10 < one.cbor
-2|/dev/null|usage: cose-sift [--max BYTES] < INPUT > SIFTED|../cose-sift one.cbor
+2|/dev/null|  one.cbor: the input is read from standard input, as in < one.cbor|../cose-sift one.cbor
 2|/dev/null|       cose-show --cut SIZE DIR [FILE]|cose-show --strikt < one.cbor
 2|/dev/null|       cose-show --cut SIZE DIR [FILE]|cose-show $'\xff'
 2|/dev/null|       cose-show --cut SIZE DIR [FILE]|../cose-show --strikt
