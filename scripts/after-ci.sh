@@ -109,6 +109,7 @@ rows() {
 4|/dev/null|stopped: decode: Io|cose-sift < .
 # the sieve in front of the gate
 0|mixed.cbor|sifted 9, dropped 0|cose-sift < mixed.cbor
+0|one.cbor||{ cat one.cbor; sleep 2; } | cose-sift | timeout 1 head -c 48
 1|one.cbor|sifted 1, dropped 1|{ printf '\360'; cat one.cbor; } | cose-sift
 1|one.cbor|passed 1, refused 0|{ printf '\360'; cat one.cbor; } | cose-sift 2> /dev/null | cose-gate keys.cbor 01
 1|/dev/null|sifted 0, dropped 1|cose-sift --max 47 < one.cbor

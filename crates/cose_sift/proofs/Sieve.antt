@@ -1,5 +1,5 @@
 -- Items that were sifted one after another.
-use Rattle.std.proofs.Common.{◌≡◌, ℕ, ◌+◌, ◌≤◌, ◌<◌, List, [], ◌++◌, length, Bool, true, false, MatchBool, Option, Some, None, ◌⊎◌, inl, inr, Result, Ok, Err, IfOk, IfErr, refl, sym, subst, ◌∙◌, append-nil, arith}
+use Rattle.std.proofs.Common.{◌≡◌, ◌≢◌, ℕ, ◌+◌, ◌≤◌, ◌<◌, List, [], ◌++◌, length, Bool, true, false, MatchBool, Option, Some, None, ◌⊎◌, inl, inr, Result, Ok, Err, IfOk, IfErr, refl, sym, ap, subst, ◌∙◌, append-nil, arith}
 use Rattle.std.specs.Io.KnownBytes.{Keeps, Appends, Consumes}
 use Rattle.std.proofs.KnownBytes.{Keeps-refl, Appends-nil, Appends-trans, Appends-kept}
 use Rattle.ciborium_ll.specs.Device.{AppendsFront}
@@ -48,16 +48,16 @@ pub ran_end : (max : ℕ) (old mid new : Seen) (w v u : Option (List ℕ)) (c d 
 ran_end max old mid new w v u c d h r k f is same e =
     rw e (ran_whole max old.left mid.left w u c r.taken.bytes r.taken.taken (r.taken.has.0, r.taken.has.1, Appends-kept w v u r.taken.has.0 r.taken.has.2 k) ((subst (ItemFails mid new) is f).0 same))
 
-halts_at : (mid new : Seen) (v u : Option (List ℕ)) (h : Halt) → ItemFails mid new h → Keeps v u → HaltsAt mid new v u h
-halts_at mid new v u (halt.Decode s) f k = (f, k)
-halts_at mid new v u halt.Write f k = inl k
+halts_at : (mid new : Seen) (v u : Option (List ℕ)) (h : Halt) → ItemFails mid new h → Keeps v u → (h ≡ halt.Decode stop.End → new.offset ≢ mid.offset) → HaltsAt mid new v u h
+halts_at mid new v u (halt.Decode s) f k n = (f, k, λ e. n (ap (λ z. halt.Decode z) e))
+halts_at mid new v u halt.Write f k n = inl k
 
-pub ran_halts : (max : ℕ) (old mid new : Seen) (w v u : Option (List ℕ)) (c : Counts) (h : Halt) → Ran max old mid w v c → ItemFails mid new h → Keeps v u → Halts max old new w u h
-ran_halts max old mid new w v u c h r f k = record { mid = mid; written = v; counts = c; before = r.taken; why = halts_at mid new v u h f k }
+pub ran_halts : (max : ℕ) (old mid new : Seen) (w v u : Option (List ℕ)) (c : Counts) (h : Halt) → Ran max old mid w v c → ItemFails mid new h → Keeps v u → (h ≡ halt.Decode stop.End → new.offset ≢ mid.offset) → Halts max old new w u h
+ran_halts max old mid new w v u c h r f k n = record { mid = mid; written = v; counts = c; before = r.taken; why = halts_at mid new v u h f k n }
 
 pub ran_memory : (max : ℕ) (old mid new : Seen) (w v u : Option (List ℕ)) (c : Counts) (h : Halt) (x : List ℕ) → Ran max old mid w v c → Takes mid new (λ y. (y ≡ x) × IsOne y × length y ≤ max)
     → ((h ≡ halt.Decode stop.Memory) × Keeps v u) ⊎ ((h ≡ halt.Write) × IsReadable x × AppendsFront v u x) → Halts max old new w u h
-ran_memory max old mid new w v u c h x r t (inl m) = ran_halts max old mid new w v u c h r (subst (ItemFails mid new) (sym m.0) tt) m.1
+ran_memory max old mid new w v u c h x r t (inl m) = ran_halts max old mid new w v u c h r (subst (ItemFails mid new) (sym m.0) tt) m.1 (λ e. let k : halt.Decode stop.Memory ≡ halt.Decode stop.End = sym m.0 ∙ e in cc)
 ran_memory max old mid new w v u c h x r t (inr f) = record {
   mid = mid;
   written = v;
@@ -97,13 +97,13 @@ pub ran_uncounted : (max : ℕ) (old mid new : Seen) (w v u : Option (List ℕ))
     → MatchBool yes (IsReadable b × Appends v u b) ((IsReadable b → ⊥) × Keeps v u) → h ≡ halt.Decode stop.TooLong → Halts max old new w u h
 ran_uncounted max old mid new w v u c h b true r t p e =
     let d : Counts = record { sifted = c.sifted + 1; dropped = c.dropped } in
-    ran_halts max old new new w u u d h (ran_kept max old mid new w v u c d b r t p.0 p.1 refl refl) (subst (ItemFails new new) (sym e) tt) (Keeps-refl u)
-ran_uncounted max old mid new w v u c h b false r t p e = ran_halts max old mid new w v u c h r (subst (ItemFails mid new) (sym e) tt) p.1
+    ran_halts max old new new w u u d h (ran_kept max old mid new w v u c d b r t p.0 p.1 refl refl) (subst (ItemFails new new) (sym e) tt) (Keeps-refl u) (λ q. let k : halt.Decode stop.TooLong ≡ halt.Decode stop.End = sym e ∙ q in cc)
+ran_uncounted max old mid new w v u c h b false r t p e = ran_halts max old mid new w v u c h r (subst (ItemFails mid new) (sym e) tt) p.1 (λ q. let k : halt.Decode stop.TooLong ≡ halt.Decode stop.End = sym e ∙ q in cc)
 
 pub if_ok_as : (P Q : Counts → Type 0) (r : Result Counts Halt) → IfOk r P → ((d : Counts) → P d → Q d) → IfOk r Q
 if_ok_as P Q (Ok d) p f = f d p
 if_ok_as P Q (Err h) p f = tt
 
-pub if_err_is : (Q : Halt → Type 0) (r : Result Counts Halt) (h : Halt) → IfErr r (λ e. e ≡ h) → Q h → IfErr r Q
+pub if_err_is : {N : Type 0} (Q : Halt → Type 0) (r : Result Counts Halt) (h : Halt) → IfErr r (λ e. (e ≡ h) × N) → (N → Q h) → IfErr r Q
 if_err_is Q (Ok d) h p q = tt
-if_err_is Q (Err e) h p q = subst Q (sym p) q
+if_err_is Q (Err e) h p q = subst Q (sym p.0) (q p.1)

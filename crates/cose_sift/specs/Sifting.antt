@@ -1,11 +1,12 @@
 -- What is written of the items of a sequence.
-use Rattle.std.specs.Prelude.{ℕ, ◌+◌, ◌≤◌, ◌⊎◌, List, [], ◌++◌, length, Option, Result, Ok, Err, nat_eq, if◌then◌else◌}
+use Rattle.std.specs.Prelude.{◌≡◌, ◌≢◌, ℕ, ◌+◌, ◌≤◌, ◌⊎◌, List, [], ◌++◌, length, Option, Result, Ok, Err, nat_eq, if◌then◌else◌}
 use Rattle.std.specs.Io.KnownBytes.{Keeps, Appends}
 use Rattle.ciborium_ll.specs.Device.{AppendsFront}
 use Rattle.ciborium_ll.specs.Seen.{Seen, Takes}
 use Rattle.cose_sift.specs.declared.items.Halt.{Halt}
 use Rattle.cose_sift.specs.declared.items.Halt.TheVariants as halt
 use Rattle.cose_sift.specs.declared.sifting.Counts.{Counts}
+use Rattle.cose_sift.specs.declared.taking.Stop.TheVariants as stop
 use Rattle.cose_sift.specs.Reading.{IsReadable}
 use Rattle.cose_sift.specs.Taking.{ItemFails}
 use Rattle.cose_sift.specs.Walking.{IsOne}
@@ -21,9 +22,11 @@ pub data Sifted (max : ℕ) : (b out : List ℕ) (n k : ℕ) → Type 0 where
 abbrev pub Writes : ℕ → (w w' : Option (List ℕ)) → Counts → List ℕ → Type 0
 Writes max w w' counts b = (out : List ℕ) × Sifted max b out counts.sifted counts.dropped × Appends w w' out
 
--- why no item was passed on after some, and what was written then
+-- why no item was passed on after some, and what was written then; the end of the input stops a run
+-- only inside an item
 abbrev pub HaltsAt : (old new : Seen) (w w' : Option (List ℕ)) → Halt → Type 0
-HaltsAt old new w w' (halt.Decode s) = ItemFails old new (halt.Decode s) × Keeps w w'
+HaltsAt old new w w' (halt.Decode s) =
+    ItemFails old new (halt.Decode s) × Keeps w w' × (s ≡ stop.End → new.offset ≢ old.offset)
 HaltsAt old new w w' halt.Write = Keeps w w' ⊎ Takes old new (λ x. IsReadable x × AppendsFront w w' x)
 
 -- 0 if no item was left out, 1 if some were, and 4 if the run stopped

@@ -18,7 +18,8 @@ use std::alloc::Global;
 /// `Decode` with `Memory`, also if its bytes are within 4,096 of 2^64.
 pub fn is_readable(alloc: Global, item: &[u8]) -> Result<bool, Halt>
     requires { IsOne item.now }
-    ensures ok { IfOk result (λ yes. MatchBool yes (IsReadable item.now) (IsReadable item.now → ⊥)) }
+    ensures ok { IfOk result (λ yes. MatchBool yes (IsReadable item.now)
+        (IsReadable item.now → ⊥)) }
     ensures err { IfErr result (λ h. h ≡ halt.Decode stop.Memory) }
 {
     let mut decoder = Decoder::from(item);

@@ -1,5 +1,5 @@
 //! The items that can be read.
-ghost use Rattle.std.specs.Prelude.{◌≡◌, None, true, false, IfOk, IfErr, MatchBool, ◌⊎◌, ◌+◌};
+ghost use Rattle.std.specs.Prelude.{◌≡◌, ◌≢◌, None, true, false, IfOk, IfErr, MatchBool, ◌⊎◌, ◌+◌};
 ghost use Rattle.std.specs.Io.KnownBytes.{Keeps, Appends};
 ghost use Rattle.ciborium_ll.specs.Device.{AppendsFront};
 ghost use Rattle.ciborium_ll.specs.Views.{waiting_of, seen};
@@ -54,7 +54,8 @@ impl Counts {
 fn ended(fault: Halt, from: usize, to: usize, counts: Counts) -> Result<Counts, Halt>
     ensures ok { IfOk result (λ c. (c ≡ «counts») × («fault» ≡ halt.Decode stop.End)
         × («to» ≡ «from»)) }
-    ensures err { IfErr result (λ h. h ≡ «fault») }
+    ensures err { IfErr result (λ h. (h ≡ «fault»)
+        × («fault» ≡ halt.Decode stop.End → «to» ≢ «from»)) }
 {
     match fault {
         Halt::Decode(Stop::End) => {

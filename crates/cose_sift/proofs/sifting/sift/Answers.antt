@@ -1,4 +1,6 @@
-use Rattle.std.proofs.Common.{refl, ◌∙◌, sym}
+use Rattle.std.proofs.Common.{◌≡◌, refl, ◌∙◌, sym}
+use Rattle.cose_sift.specs.declared.items.Halt.TheVariants as halt
+use Rattle.cose_sift.specs.declared.taking.Stop.TheVariants as stop
 use Rattle.std.proofs.KnownBytes.{Keeps-refl}
 use Rattle.ciborium_ll.specs.Views.{seen}
 use Rattle.cose_sift.proofs.Sieve.{ran_none, ran_on, ran_passed, ran_dropped, ran_uncounted, ran_end, ran_halts, ran_memory, taken_all, taken_long, if_ok_as, if_err_is}
@@ -22,8 +24,8 @@ returns-in-Err-clause-ok g c = if_ok_as _ _ c.ended.result c.ended.ensures.ok (�
 
 pub returns-in-Err-clause-err : goal.returns-in-Err-clause-err
 returns-in-Err-clause-err g c = if_err_is _ c.ended.result c.in-Err.halt c.ended.ensures.err
-    (ran_halts c.args.max (seen g.R.Read c.args.decoder.now) (seen g.R.Read c.items.decoder) (seen g.R.Read c.take_item.new.decoder) (g.W.Write.written c.args.out.now) (g.W.Write.written c.items.out) (g.W.Write.written c.take_item.new.out)
-    c.items.counts c.in-Err.halt c.items.invariant.ran c.in-Err.ensures.err c.in-Err.ensures.out)
+    (λ other. ran_halts c.args.max (seen g.R.Read c.args.decoder.now) (seen g.R.Read c.items.decoder) (seen g.R.Read c.take_item.new.decoder) (g.W.Write.written c.args.out.now) (g.W.Write.written c.items.out) (g.W.Write.written c.take_item.new.out)
+    c.items.counts c.in-Err.halt c.items.invariant.ran c.in-Err.ensures.err c.in-Err.ensures.out (λ e q. other e (c.offset.ensures ∙ q ∙ sym c.offset-at.ensures)))
 
 pub returns-in-Err-pass-clause-err : goal.returns-in-Err-pass-clause-err
 returns-in-Err-pass-clause-err g c =
@@ -42,7 +44,7 @@ returns-in-Err-and-clause-err g c =
           (taken_all c.args.max (seen g.R.Read c.items.decoder) (seen g.R.Read c.take_item.new.decoder) c.take_item.new.taking w.in-Some.item.now w.in-Some.ensures.some.0 w.in-Some.ensures.some.1 (c.in-Ok.ensures.max ∙ c.items.invariant.max) c.in-Ok.ensures.ok)
           w.in-Ok-pass.ensures.ok c.in-Err-and.ensures.err)
       | in-None w ↦ rw (w.out-is, c.in-Err-and.ensures.err) (ran_halts c.args.max (seen g.R.Read c.args.decoder.now) (seen g.R.Read c.items.decoder) (seen g.R.Read c.take_item.new.decoder) (g.W.Write.written c.args.out.now) (g.W.Write.written c.take_item.new.out) (g.W.Write.written c.take_item.new.out)
-          c.items.counts _ r tt (Keeps-refl _))
+          c.items.counts _ r tt (Keeps-refl _) (λ q. let k : halt.Decode stop.TooLong ≡ halt.Decode stop.End = q in cc))
     ]
 
 pub items-preserved : goal.items-preserved
@@ -66,4 +68,4 @@ items-preserved g c =
     }
 
 pub returns-clause-err : goal.returns-clause-err
-returns-clause-err g c = ran_halts c.args.max (seen g.R.Read c.args.decoder.now) (seen g.R.Read c.items.decoder) (seen g.R.Read c.items.decoder) (g.W.Write.written c.args.out.now) (g.W.Write.written c.items.out) (g.W.Write.written c.items.out) c.items.counts _ c.items.invariant.ran tt (Keeps-refl _)
+returns-clause-err g c = ran_halts c.args.max (seen g.R.Read c.args.decoder.now) (seen g.R.Read c.items.decoder) (seen g.R.Read c.items.decoder) (g.W.Write.written c.args.out.now) (g.W.Write.written c.items.out) (g.W.Write.written c.items.out) c.items.counts _ c.items.invariant.ran tt (Keeps-refl _) (λ q. let k : halt.Decode stop.TooLong ≡ halt.Decode stop.End = q in cc)
