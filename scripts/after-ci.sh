@@ -45,8 +45,9 @@ rows() {
 2|/dev/null|usage: cose-pass [--strict] ACCEPTED [AADHEX]|cose-pass /dev/null $'\xff' < one.cbor
 2|/dev/null|usage: cose-pass [--strict] ACCEPTED [AADHEX]|../cose-pass
 0|||cose-sift --help | cmp - <(../cose-sift --help)
-2|/dev/null|usage: cose-sift [--max BYTES] < INPUT > SIFTED|cose-sift --max < one.cbor
-2|/dev/null|usage: cose-sift [--max BYTES] < INPUT > SIFTED|cose-sift --max 0x10 < one.cbor
+2|/dev/null|usage: cose-sift [--untag] [--max BYTES] < INPUT > SIFTED|cose-sift --max < one.cbor
+2|/dev/null|usage: cose-sift [--untag] [--max BYTES] < INPUT > SIFTED|cose-sift --max 0x10 < one.cbor
+2|/dev/null|usage: cose-sift [--untag] [--max BYTES] < INPUT > SIFTED|../cose-sift --untag --max < one.cbor
 2|/dev/null|  one.cbor: the input is read from standard input, as in < one.cbor|../cose-sift one.cbor
 2|/dev/null|       cose-show --cut SIZE DIR [FILE]|cose-show --strikt < one.cbor
 2|/dev/null|       cose-show --cut SIZE DIR [FILE]|cose-show $'\xff'
@@ -55,12 +56,15 @@ rows() {
 2|/dev/null|aad: not hex|cose-ask 0 < one.cbor
 2|/dev/null|aad: not hex|cose-pass /dev/null 0 < one.cbor
 2|/dev/null|cose-show: the external data is not hex|cose-show --aad 0 one.cbor
-3|/dev/null|keys: cannot be read|cose-gate nosuch 01 < one.cbor
+3|/dev/null|  no such file|cose-gate nosuch 01 < one.cbor
+3|/dev/null|  no permission|$nobody cose-gate $T/unreadable 01 < one.cbor
+3|/dev/null|  it is text in hex, not binary|cose-gate <(od -An -tx1 keys.cbor) 01 < one.cbor
+3|/dev/null|  it is text in base64, not binary|cose-gate <(base64 keys.cbor) 01 < one.cbor
 3|/dev/null|  nosuch: no such file|cose-gate --verbose nosuch 01 < one.cbor
 3|/dev/null|  nosuch: no such file|../cose-gate nosuch 01
 3|/dev/null|  .: a folder|cose-gate --verbose . 01 < one.cbor
 3|/dev/null|  $T/unreadable: no permission|$nobody cose-gate --verbose $T/unreadable 01 < one.cbor
-3|/dev/null|keys: got tag, expected array|cose-gate one.cbor 01 < one.cbor
+3|/dev/null|  cose-show shows what it holds|cose-gate one.cbor 01 < one.cbor
 3|/dev/null|accepted: cannot be read|cose-pass nosuch 01 < one.cbor
 3|/dev/null|accepted: cannot be read|$nobody cose-pass $T/unreadable 01 < one.cbor
 3|/dev/null|  nosuch: no such file|../cose-pass nosuch 01
@@ -102,6 +106,7 @@ rows() {
 4|$T/one.records|stopped: decode: Io(EndOfFile)|cose-ask 01 < cut.cbor
 4|one.cbor|stopped: decode: Io(EndOfFile)|cose-pass $T/one.records 01 < cut.cbor
 4||cose-show: damaged at 50: the input ends inside an item|cose-show cut.cbor
+4||cose-show: the gate stops at item 2|cat one.cbor <(printf '\360') one.cbor | cose-show
 4|/dev/null|stopped: decode: Io|cose-gate keys.cbor 01 < .
 4|/dev/null|stopped: decode: Io|cose-ask 01 < .
 4|/dev/null|stopped: decode: Io|cose-pass $T/one.records 01 < .
@@ -114,6 +119,14 @@ rows() {
 1|one.cbor|passed 1, refused 0|{ printf '\360'; cat one.cbor; } | cose-sift 2> /dev/null | cose-gate keys.cbor 01
 1|/dev/null|sifted 0, dropped 1|cose-sift --max 47 < one.cbor
 0|one.cbor|sifted 1, dropped 0|cose-sift --max 48 < one.cbor
+0|one.cbor|sifted 1, dropped 0|{ printf '\331\331\367\330\075\333\0\0\0\0\0\0\0\075'; cat one.cbor; } | cose-sift --untag
+0||sifted 1, dropped 0|{ printf '\330\075'; cat one.cbor; } | cose-sift | cmp - <(printf '\330\075'; cat one.cbor)
+0||sifted 2, dropped 0|printf '\330\076\330\075\1\201\330\075\1' | cose-sift --untag | cmp - <(printf '\330\076\330\075\1\201\330\075\1')
+0||sifted 1, dropped 0|{ printf '\331\331\367%.0s' {1..300}; printf '\1'; } | cose-sift --untag | cmp - <(printf '\1')
+1|one.cbor|sifted 1, dropped 1|{ printf '\330\075\360'; cat one.cbor; } | cose-sift --untag --max 48
+1|/dev/null|sifted 0, dropped 1|{ printf '\330\075'; cat one.cbor; } | cose-sift --max 49 --untag
+0|one.cbor|sifted 1, dropped 0|{ printf '\330\075'; cat one.cbor; } | cose-sift --max 50 --untag
+4|one.cbor|stopped: decode: Syntax(50)|{ cat one.cbor; printf '\330\075\377'; } | cose-sift --untag
 4|one.cbor|stopped: decode: Io(EndOfFile)|cose-sift < cut.cbor
 4|one.cbor|stopped: decode: Syntax(48)|{ cat one.cbor; printf '\377'; } | cose-sift
 # a full disk, and a pipe that nobody reads
@@ -145,7 +158,11 @@ rows() {
 4|/dev/null|cose-show: the folder DIR can't be made|cose-show --cut 1 one.cbor mixed.cbor
 4|/dev/null|cose-show: a file in DIR can't be made or written|trap '' XFSZ; ulimit -f 1; cose-show --cut 100000 $T/full $T/many
 1|||COSE_GATE=$T/bin/cose-gate COSE_SHOW=$T/bin/cose-show ./many.sh -x -s 100 -c keys.cbor 01 mixed.cbor $T/joined $T/said
-# a live pipe: nothing yet
+# a live pipe: what passed and its line are out before more is waited for, though half of the next item is there; a signal loses neither
+124|one.cbor|item 1 at 0: passed|{ cat one.cbor; sleep 3; } | timeout 2 cose-gate keys.cbor 01
+124|one.cbor|item 1 at 0: passed|{ cat one.cbor; head -c 20 one.cbor; sleep 3; } | timeout 2 cose-gate keys.cbor 01
+124|one.cbor|item 1 at 0: passed|{ cat one.cbor; sleep 3; } | timeout 2 cose-gate --verbose keys.cbor 01
+124|one.cbor|item 1 at 0: passed|{ cat one.cbor; sleep 3; } | timeout 2 cose-pass $T/one.records 01
 END
   if (command -v openssl && command -v xxd && python3 -c 'import cryptography') > /dev/null 2>&1; then
     echo '0|||ASK=cose-ask PASS=cose-pass bash signatures/run.sh'

@@ -3,6 +3,7 @@
 # - The blocks of Rattle on the pages are whole parts of the crate callers, of an example or of a test (scripts/quotes.py).
 # - The scripts cose-gate, cose-show, cose-ask, cose-pass and cose-sift have the help of their programs.
 # - What is said in several places is said in all of them (scripts/places.py).
+# - The functions, laws and clauses of which README.md and docs/PROVED.md say what is proved are there (scripts/claims.py).
 cd "$(dirname "$0")/.." || exit 2
 status=0
 
@@ -10,6 +11,7 @@ if command -v python3 > /dev/null; then
   python3 scripts/quotes.py || status=1
   python3 scripts/signatures.py cose_gate gate > /dev/null || status=1
   python3 scripts/places.py || status=1
+  python3 scripts/claims.py || status=1
 else
   echo "quotes.sh: python3 isn't there, so blocks of code are not compared" >&2
 fi

@@ -8,10 +8,10 @@ use Rattle.cose_gate.specs.Counts.{Counts}
 use Rattle.cose_gate.specs.Entry.{Entry}
 use Rattle.cose_gate.specs.Findings.{usual, IsJudged}
 use Rattle.cose_gate.specs.Front.{Reads}
-use Rattle.cose_gate.specs.Gate.{IfWrite, IfMemory, Noted, Torn, Refused}
+use Rattle.cose_gate.specs.Gate.{IfWrite, IfMemory, Noted, WriteFailed, OutOfMemory}
 use Rattle.cose_gate.specs.GateFault.{GateFault}
 use Rattle.cose_gate.specs.GateFault.TheVariants as gating
-use Rattle.cose_gate.specs.Outcome.{Rules, Sight, Answers, writer_failures}
+use Rattle.cose_gate.specs.Outcome.{Rules, GateState, Answers, writer_failures}
 use Rattle.cose_gate.specs.Questions.{MessageFields}
 use Rattle.cose_gate.specs.ReadError.TheVariants.{TooLong}
 use Rattle.cose_gate.specs.Reading.{IfKnown}
@@ -28,7 +28,7 @@ noted_all : (old es : List Entry) → folded_over (λ ns e. ns ++ e ∷ []) old 
 noted_all old [] = sym (append-nil old)
 noted_all old (e ∷ es) = noted_all (old ++ e ∷ []) es ∙ append_assoc old (e ∷ []) es
 
-module _ {T : Type 0} (rules : Rules T (List Entry)) (old new : Sight T (List Entry)) (ss : List Step) where
+module _ {T : Type 0} (rules : Rules T (List Entry)) (old new : GateState T (List Entry)) (ss : List Step) where
   pub noted : rules.folded ≡ (λ ns e. ns ++ e ∷ []) → rules.limits ≡ usual → Noted rules old new ss → spec.Noted rules.allows rules.aad ss old.state new.state
   noted folds limits n = (
     n.entries,
@@ -36,14 +36,14 @@ module _ {T : Type 0} (rules : Rules T (List Entry)) (old new : Sight T (List En
     n.state ∙ (ap (λ f. folded_over f old.state n.entries) folds ∙ noted_all old.state n.entries),
   )
 
-module _ {T S : Type 0} (rules : Rules T S) (old new : Sight T S) (ss : List Step) where
-  pub torn : {E : Type 0} (ends : E → Bool) (r : Result Counts (GateFault E)) → Answers ends rules old new r → IfWrite r (Torn rules old new ss) → IfWrite r (spec.Torn rules.allows rules.aad ss old.written new.written)
+module _ {T S : Type 0} (rules : Rules T S) (old new : GateState T S) (ss : List Step) where
+  pub torn : {E : Type 0} (ends : E → Bool) (r : Result Counts (GateFault E)) → Answers ends rules old new r → IfWrite r (WriteFailed rules old new ss) → IfWrite r (spec.Torn rules.allows rules.aad ss old.written new.written)
   torn ends (Ok counts) ran t = tt
   torn ends (Err (gating.Decode e)) ran t = tt
   torn ends (Err gating.Write) ran t = (t.done, t.last, t.behind, t.whole, t.text, t.front, t.written)
   torn ends (Err gating.Memory) ran t = tt
 
-  pub whole : {E : Type 0} (ends : E → Bool) (r : Result Counts (GateFault E)) → Answers ends rules old new r → IfMemory r (Refused rules old new ss) → IfMemory r (spec.WholeTexts rules.allows rules.aad ss old.written new.written)
+  pub whole : {E : Type 0} (ends : E → Bool) (r : Result Counts (GateFault E)) → Answers ends rules old new r → IfMemory r (OutOfMemory rules old new ss) → IfMemory r (spec.WholeTexts rules.allows rules.aad ss old.written new.written)
   whole ends (Ok counts) ran t = tt
   whole ends (Err (gating.Decode e)) ran t = tt
   whole ends (Err gating.Write) ran t = tt

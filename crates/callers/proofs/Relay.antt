@@ -9,7 +9,7 @@ use Rattle.cose_gate.specs.Questions.{Question}
 use Rattle.cose_gate.specs.Asked.{folded_over}
 use Rattle.cose_gate.specs.Run.{Step, Run, Course, asked_of, questions_of}
 use Rattle.cose_gate.specs.Gate.{Call, WritesAll, CountsAll, Stops}
-use Rattle.cose_gate.specs.Outcome.{Rules, Sight, IsFaultOf, Whole, Outcome, Answers}
+use Rattle.cose_gate.specs.Outcome.{Rules, GateState, IsFaultOf, Whole, Outcome, Answers}
 use Rattle.cose_gate.specs.Counts.{Counts}
 use Rattle.cose_gate.specs.GateFault.{GateFault}
 use Rattle.cose_gate.specs.GateFault.TheVariants as gating
@@ -27,10 +27,10 @@ told_all told (q ∷ qs) = told_all (told ++ key_id_of q.subject ∷ []) qs ∙ 
 abbrev pub by : Bounds → List (List ℕ) → List ℕ → Rules (List (List ℕ)) Tallied
 by limits ids aad = record { limits = limits; decided = decided; folded = tallied; allows = allows ids; aad = aad }
 
-abbrev sides : Sight (List (List ℕ)) Tallied → Sides
+abbrev sides : GateState (List (List ℕ)) Tallied → Sides
 sides s = record { asked = s.told; tally = s.state }
 
-module _ (ids : List (List ℕ)) (aad input : List ℕ) (old new : Sight (List (List ℕ)) Tallied) where
+module _ (ids : List (List ℕ)) (aad input : List ℕ) (old new : GateState (List (List ℕ)) Tallied) where
   pub whole : (output : List ℕ) (counts : Counts) → old.offset ≡ 0 → old.written ≡ Some [] → new.written ≡ Some output → Whole (by usual ids aad) old new input counts
       → Relayed ids aad input (sides old) (sides new) output counts
   whole output counts start none out w = record {
@@ -95,7 +95,7 @@ module _ (ids : List (List ℕ)) (aad input : List ℕ) (old new : Sight (List (
     }
 
 -- the clauses of the gate, over a run of the input; its result tells which sights are meant
-module _ (limits : Bounds) (ids : List (List ℕ)) (aad input : List ℕ) (old new : Sight (List (List ℕ)) Tallied) {E : Type 0} (ends : E → Bool) where
+module _ (limits : Bounds) (ids : List (List ℕ)) (aad input : List ℕ) (old new : GateState (List (List ℕ)) Tallied) {E : Type 0} (ends : E → Bool) where
   abbrev the_call : Call (List (List ℕ)) Tallied E
   the_call = record { ends = ends; rules = by limits ids aad; old = old; new = new }
 

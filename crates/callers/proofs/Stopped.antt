@@ -6,11 +6,11 @@ use Rattle.std.specs.Prelude.{Result, Ok, Err, IfErr, ◌≢◌}
 use Rattle.cose_gate.specs.Anew.{bytes_of}
 use Rattle.cose_gate.specs.Counts.{Counts}
 use Rattle.cose_gate.specs.Front.{HoldsOne}
-use Rattle.cose_gate.specs.Gate.{IfMemory, Refused}
+use Rattle.cose_gate.specs.Gate.{IfMemory, OutOfMemory}
 use Rattle.cose_gate.specs.GateFault.{GateFault}
 use Rattle.cose_gate.specs.GateFault.TheVariants as gating
 use Rattle.cose_gate.specs.Items.{SequenceWithin}
-use Rattle.cose_gate.specs.Outcome.{Rules, Sight, IfTooLong}
+use Rattle.cose_gate.specs.Outcome.{Rules, GateState, IfTooLong}
 use Rattle.cose_gate.specs.ReadError.TheVariants.{TooLong}
 use Rattle.cose_gate.specs.Reading.{IsFar}
 use Rattle.cose_gate.specs.Run.{Step, Run}
@@ -36,8 +36,8 @@ bytes_to xs s =
     ap length (flat_map-append (λ (s : Step). s.item.bytes) xs (s ∷ []) ∙ ap (λ (z : List ℕ). bytes_of xs ++ z) (append-nil s.item.bytes))
     ∙ length-append (bytes_of xs) s.item.bytes
 
-module _ {T S : Type 0} (rules : Rules T S) (old new : Sight T S) (input : List ℕ) (ss : List Step) (rest : List ℕ)
-    (is : old.left ≡ Some input) (start : old.offset ≡ 0) (run : Run rules.limits rules.allows rules.aad 0 input ss rest) (t : Refused rules old new ss) where
+module _ {T S : Type 0} (rules : Rules T S) (old new : GateState T S) (input : List ℕ) (ss : List Step) (rest : List ℕ)
+    (is : old.left ≡ Some input) (start : old.offset ≡ 0) (run : Run rules.limits rules.allows rules.aad 0 input ss rest) (t : OutOfMemory rules old new ss) where
   come : input ≡ bytes_of (t.done ++ t.last) ++ t.more
   come = let h : Some input ≡ Some (bytes_of (t.done ++ t.last) ++ t.more) = sym is ∙ t.come in cc
 
@@ -81,10 +81,10 @@ module _ {T S : Type 0} (rules : Rules T S) (old new : Sight T S) (input : List 
       let two : length t.last ≡ length (r ∷ s ∷ rs) = ap length e in
       absurd (let k : ⊥ = omega (arith, two, t.one) in k)
 
-module _ {T S : Type 0} (rules : Rules T S) (old new : Sight T S) (input : List ℕ) (ss : List Step) (rest : List ℕ) where
+module _ {T S : Type 0} (rules : Rules T S) (old new : GateState T S) (input : List ℕ) (ss : List Step) (rest : List ℕ) where
   pub taken : {E : Type 0} (r : Result Counts (GateFault E)) → old.left ≡ Some input → old.offset ≡ 0
       → Run rules.limits rules.allows rules.aad 0 input ss rest
-      → IfMemory r (Refused rules old new ss) → IfMemory r (Taken ss input new.offset)
+      → IfMemory r (OutOfMemory rules old new ss) → IfMemory r (Taken ss input new.offset)
   taken (Ok counts) is start run t = tt
   taken (Err (gating.Decode e)) is start run t = tt
   taken (Err gating.Write) is start run t = tt

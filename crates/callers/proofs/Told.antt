@@ -14,9 +14,9 @@ use Rattle.cose_gate.specs.GateFault.{GateFault}
 use Rattle.cose_gate.specs.GateFault.TheVariants as gating
 use Rattle.cose_gate.specs.Items.{SequenceWithin}
 use Rattle.cose_gate.specs.KeyFields.{KeyFields}
-use Rattle.cose_gate.specs.Outcome.{Rules, Sight, Whole, Outcome, Answers}
+use Rattle.cose_gate.specs.Outcome.{Rules, GateState, Whole, Outcome, Answers}
 use Rattle.cose_gate.specs.Notice.{Notice}
-use Rattle.cose_gate.specs.Program.{Devices, Ending, finished, unreadable, no_memory, within, asking as asks, writing, noting, Shows, result_of}
+use Rattle.cose_gate.specs.Program.{Devices, Ending, finished, unflushed, unreadable, no_memory, within, asking as asks, writing, noting, Shows, result_of}
 use Rattle.cose_gate.specs.Telling.{last_of, status_at, RanTold, EndsTold, not_begun, after_run}
 use Rattle.cose_gate_program.proofs.Tellings.{ran_as}
 use Rattle.callers.proofs.Ended.{ran_status, not_few}
@@ -40,7 +40,7 @@ whole_front : (qs : List Question) → IsFront qs qs
 whole_front qs = record { more = []; whole = sym (append-nil qs) }
 
 -- the bytes to come are the input
-pub here : {T S E : Type 0} (ends : E → Bool) (rules : Rules T S) (old new : Sight T S)
+pub here : {T S E : Type 0} (ends : E → Bool) (rules : Rules T S) (old new : GateState T S)
     (input : List ℕ) (r : Result Counts (GateFault E)) → old.left ≡ Some input
     → Answers ends rules old new r → Outcome ends rules old new input r
 here ends rules old new input r is a =
@@ -67,7 +67,7 @@ passing folded rule aad = record {
   aad = aad;
 }
 
-module _ {S : Type 0} (folded : S → Entry → S) (aad input : List ℕ) (old new : Sight (List ℕ) S) where
+module _ {S : Type 0} (folded : S → Entry → S) (aad input : List ℕ) (old new : GateState (List ℕ) S) where
   pub asked : (counts : Counts) → old.offset ≡ 0 → Whole (asking folded aad) old new input counts
       → IsAsked aad input old.told new.told counts
   asked counts start w = record {
@@ -112,7 +112,7 @@ module _ {S : Type 0} (folded : S → Entry → S) (aad input : List ℕ) (old n
   }
 
 module _ {S : Type 0} (folded : S → Entry → S) (yes : Question → Bool) (aad input : List ℕ)
-    (old new : Sight (Unit {0}) S) where
+    (old new : GateState (Unit {0}) S) where
   pub passed_by : (output : List ℕ) (counts : Counts) → old.offset ≡ 0 → old.written ≡ Some []
       → new.written ≡ Some output → Whole (passing folded yes aad) old new input counts
       → IsPassedBy yes aad input output counts
@@ -196,6 +196,7 @@ all_written limits says aad old new done finished rest true exact s none =
     (subst (λ (z : List ℕ). SequenceWithin limits.nesting 0 s.input (map (λ s. s.item) (done ++ [])) z) s.ends s.course.sequence) count in
     subst (λ (z : List ℕ). Appends old.written new.written z) (append-nil (output_of says aad done) ∙ (sym (ap (output_of says aad) (append-nil done)) ∙ e)) s.written
 all_written limits says aad old new done finished rest false exact s none = absurd (let k : ⊥ = omega (arith, none) in k)
+all_written limits says aad old new done unflushed rest flushed exact s none = absurd (let k : ⊥ = omega (arith, none) in k)
 all_written limits says aad old new done (unreadable e taken) rest flushed exact s none = absurd (let k : ⊥ = omega (arith, none) in k)
 all_written limits says aad old new done (no_memory taken) rest flushed exact s none = absurd (let k : ⊥ = omega (arith, none) in k)
 all_written limits says aad old new done (within next (asks asked)) rest flushed exact s none = absurd (let k : ⊥ = omega (arith, none) in k)

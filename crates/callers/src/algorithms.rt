@@ -7,8 +7,7 @@ ghost use Rattle.callers.specs.Algorithms.{algorithm_of};
 
 use cose_gate::{About, has_algorithm, iana};
 
-/// Whether the algorithm of a question is HMAC 256/256. None that has a name in place of a number
-/// is.
+/// Whether the algorithm of a question is HMAC 256/256. One that is named by a text is not.
 pub fn is_by_hmac(about: &About) -> bool
     ensures named { (name : List ℕ) → algorithm_of (subject_of about.now) ≡ Some (named name)
         → result ≡ false }

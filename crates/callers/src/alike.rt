@@ -50,7 +50,7 @@ pub fn relay_alike(
     Ok((first, second))
 }
 
-/// Bytes, and then others.
+/// The bytes of `front`, and then those of `back`.
 fn joined(alloc: Global, front: &[u8], back: &[u8]) -> Result<Vec<u8>, AllocError>
     ensures { IfOk result (λ all. all.items ≡ front.now ++ back.now) }
 {

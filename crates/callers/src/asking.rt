@@ -92,7 +92,8 @@ pub fn pass(
     }
 }
 
-/// The program's run with a judge by key ids in place of that by HMAC, gated so.
+/// The program's run with a judge by key ids in place of that by HMAC, with the limits of `gating`,
+/// and strict if it is.
 pub fn run_by_ids<R: Read, W: Write, E: Write>(
     alloc: Global,
     gating: Gating,
@@ -114,8 +115,8 @@ pub fn run_by_ids<R: Read, W: Write, E: Write>(
     run_judged(alloc, Terms { limits, strict }, aad, input, out, err, judge)
 }
 
-/// The program's run that passes what these records were accepted for, gated so. Without records it
-/// reads nothing, and its status is 3, as without keys.
+/// The program's run that passes what these records were accepted for, with the limits of `gating`,
+/// and strict if it is. Without records it reads nothing, and its status is 3, as without keys.
 pub fn run_accepted<R: Read, W: Write, E: Write>(
     alloc: Global,
     gating: Gating,
@@ -143,8 +144,8 @@ pub fn run_accepted<R: Read, W: Write, E: Write>(
     }
 }
 
-/// The program with these arguments, gated so. With the statuses 2 and 3 nothing was read, and
-/// nothing was written.
+/// The program with these arguments and the limits of `gating`, and strict if it is. With the
+/// statuses 2 and 3 nothing was read, and nothing was written.
 pub fn run_gated<R: Read, W: Write, E: Write>(
     alloc: Global,
     gating: Gating,

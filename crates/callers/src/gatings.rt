@@ -91,7 +91,7 @@ pub fn relay_strict_with(
     }
 }
 
-/// As `relay`, gated so.
+/// As `relay`, with these limits, and strict if the gating is.
 pub fn relay_by(
     alloc: Global,
     gating: Gating,

@@ -18,7 +18,7 @@ pub struct Tape {
 impl Tape {
     ghost use Rattle.callers.specs.Held.{all_of, rest_of};
 
-    /// These bytes, of which none is read yet.
+    /// A tape of these bytes, of which none is read yet.
     pub fn new(bytes: Vec<u8>) -> Tape
         ensures all { all_of result ≡ bytes.items }
         ensures rest { rest_of result ≡ bytes.items }

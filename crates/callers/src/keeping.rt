@@ -80,7 +80,7 @@ pub struct KeyStore {
 impl KeyStore {
     ghost use Rattle.callers.specs.Keeping.{kept_of};
 
-    /// No key.
+    /// A store without a key.
     pub fn new(alloc: Global) -> KeyStore
         ensures { kept_of result ≡ [] }
     {

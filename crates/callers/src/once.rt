@@ -14,13 +14,13 @@ use crate::tally::Tally;
 use cose_gate::{End, GateFault};
 use std::alloc::{AllocError, Global};
 
-/// What was let through before.
+/// The messages that were let through before.
 #[derive(Drop)]
 pub struct Window {
     seen: Vec<Vec<u8>>,
 }
 
-/// Whether these bytes are among those.
+/// Whether these bytes are one of the messages.
 fn is_among(seen: &[Vec<u8>], message: &[u8]) -> bool
     ensures { result ≡ list_any (λ v. bytes_eq v.items message.now) seen.now }
 {
@@ -28,7 +28,7 @@ fn is_among(seen: &[Vec<u8>], message: &[u8]) -> bool
 }
 
 impl Window {
-    /// Nothing yet.
+    /// A window that has let no message through.
     pub fn new(alloc: Global) -> Window
         ensures { window_of result ≡ [] }
     {

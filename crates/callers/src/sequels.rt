@@ -19,7 +19,7 @@ use cose_gate::{End, GateFault};
 use std::alloc::Global;
 
 /// As `relay`. The output is a CBOR sequence of exactly the messages that pass (RFC 8742), and no
-/// longer than they were, if nothing in them is of the few kinds that grow.
+/// longer than these, unless they hold an item of the few kinds that grow (`output_is_no_longer`).
 ///
 /// # Errors
 /// Those of `relay`.

@@ -7,10 +7,10 @@ use ciborium_ll::{Read, Write};
 use cose_gate_program::{NotBegun, Notice, Teller, Terms, run_over_told, write_notice};
 use std::alloc::Global;
 
-/// Whether the last notice counted the items.
+/// A teller that notes whether the last notice was the counts of a run.
 #[derive(Debug, Clone, Copy, PartialEq, Eq, Drop)]
 pub struct Counted {
-    /// It did.
+    /// Whether it was.
     pub is: bool,
 }
 

@@ -42,7 +42,8 @@ impl Teller for Progress {
     }
 }
 
-/// The program's run with a judge by key ids, gated so, and watched.
+/// The program's run with a judge by key ids and the limits of `gating`, and strict if it is,
+/// watched by a teller.
 pub fn run_watched<R: Read, W: Write>(
     alloc: Global,
     gating: Gating,

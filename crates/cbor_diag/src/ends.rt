@@ -17,7 +17,7 @@ pub struct Ends {
 }
 
 impl Ends {
-    /// Before the first item.
+    /// The state in front of the first item.
     pub fn new(alloc: Global) -> Ends {
         Ends {
             walk: Walk::new(alloc),

@@ -13,10 +13,10 @@ struct Parts {
 
 #[derive(Debug, Clone, Copy, PartialEq, Eq)]
 enum Size {
-    /// So many times two to this power.
+    /// The first number times two to the power of the second.
     Finite(u64, i32),
     Infinite,
-    /// No number, with these bits after the exponent, as of 64 bits.
+    /// A NaN, by the bits after its exponent, in the places that they have in 64 bits.
     NoNumber(u64),
 }
 
@@ -84,7 +84,7 @@ pub fn whole_part(float: Float) -> Option<u64> {
     }
 }
 
-/// So many times two to this power, without a fraction.
+/// `count` times two to this power, without its fraction; none if it needs more than 64 bits.
 fn doubled(count: u64, power: i32) -> Option<u64> {
     match u32::try_from(power) {
         Ok(by) if by <= count.leading_zeros() => count.checked_shl(by),
@@ -154,7 +154,7 @@ fn to_i32(n: u32) -> i32 {
     i32::try_from(n).unwrap_or(0)
 }
 
-/// So many times two to this power, exactly when a number of 64 bits can be that.
+/// `count` times two to this power; exact if a float of 64 bits can be that.
 fn scaled(count: u64, power: i32) -> f64 {
     let [a, b, c, d, e, f, g, h] = count.to_be_bytes();
     let high = f64::from(u32::from_be_bytes([a, b, c, d]));

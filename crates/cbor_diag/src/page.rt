@@ -11,7 +11,7 @@ pub struct Page<'a, W> {
 }
 
 impl<'a, W: fmt::Write> Page<'a, W> {
-    /// Before its first text.
+    /// A page on which nothing is written yet.
     pub fn new(out: &'a mut W) -> Page<'a, W> {
         Page { out, fault: None }
     }
@@ -44,7 +44,8 @@ impl<'a, W: fmt::Write> Page<'a, W> {
         }
     }
 
-    /// What a call gives, if neither it nor anything before it failed. Its fault is noted.
+    /// What a call gave, if neither it nor anything before it failed. If it failed its fault is
+    /// noted.
     pub fn kept<T: Drop, E>(&mut self, given: Result<T, E>) -> Option<T>
     where
         NotWritten: From<E>,

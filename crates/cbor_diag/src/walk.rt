@@ -142,7 +142,7 @@ impl Walk {
         }
     }
 
-    /// Where it is.
+    /// The offset that the walk has come to, from the front of the item.
     pub fn at(&self) -> usize {
         self.at
     }

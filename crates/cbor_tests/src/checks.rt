@@ -5,12 +5,12 @@ use std::alloc::Global;
 use std::fmt::{Debug, Display};
 use std::process::Abort;
 
-/// This is so.
+/// Ends the test unless this is so.
 pub fn holds(rt: &impl Abort, is_so: bool, what: &str) {
     assert!(rt; is_so, "{what}");
 }
 
-/// Both are the same.
+/// Ends the test unless both are the same.
 pub fn same<T: PartialEq + Debug>(rt: &impl Abort, got: &T, want: &T, at: &str) {
     assert_eq!(rt; *got, *want, "at {at}");
 }

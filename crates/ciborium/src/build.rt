@@ -40,7 +40,7 @@ pub fn no_items(alloc: Global) -> Result<Vec<Value>, Error>
 /// One more item.
 ///
 /// # Errors
-/// The first of the list's and the item's; `Memory` if both are there and it is out of memory.
+/// That of the list, else that of the item, else `Memory`.
 pub fn with_item(
     items: Result<Vec<Value>, Error>,
     item: Result<Value, Error>,
@@ -60,7 +60,7 @@ pub fn with_item(
 /// The array of the items.
 ///
 /// # Errors
-/// The first of the parts': that of the items, handed on.
+/// That of the items.
 pub fn array(items: Result<Vec<Value>, Error>) -> Result<Value, Error>
     ensures ok { (ts : Trees) → IfOk items (λ v. views v.items ≡ ts)
         → IfOk result (λ v. view v ≡ tree.array ts) }
@@ -81,8 +81,7 @@ pub fn no_entries(alloc: Global) -> Result<Vec<(Value, Value)>, Error>
 /// One more entry.
 ///
 /// # Errors
-/// The first of the entries', the key's and the value's; `Memory` if all are there and it is out of
-/// memory.
+/// That of the entries, else that of the key, else that of the value, else `Memory`.
 pub fn with_entry(
     entries: Result<Vec<(Value, Value)>, Error>,
     key: Result<Value, Error>,
@@ -105,7 +104,7 @@ pub fn with_entry(
 /// The map of the entries.
 ///
 /// # Errors
-/// The first of the parts': that of the entries, handed on.
+/// That of the entries.
 pub fn map(entries: Result<Vec<(Value, Value)>, Error>) -> Result<Value, Error>
     ensures ok { (ps : Pairs) → IfOk entries (λ v. view_pairs v.items ≡ ps)
         → IfOk result (λ v. view v ≡ tree.map ps) }

@@ -11,8 +11,8 @@ use crate::reader::{is_encoded, is_over};
 use crate::value::Value;
 use ciborium_ll::{Decoder, Header, Read};
 
-/// Whether the bytes so far are canonical encoding. Once they aren't, this stays so; if it isn't
-/// asked, it is false from the start.
+/// Whether the bytes so far are canonical encoding. Once this is false it stays false; if nobody
+/// asks for it, it is false from the start.
 #[derive(Drop)]
 pub struct Exactness {
     pub holds: bool,
@@ -39,7 +39,7 @@ impl Exactness {
         }
     }
 
-    /// Whether they are, if that was asked, and else false.
+    /// Whether the bytes so far are canonical encoding; false if that wasn't asked.
     pub fn holds_if(&self, asked: bool) -> bool
         ensures { result ≡ (asked && self.now.holds) }
     {

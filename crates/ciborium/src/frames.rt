@@ -45,8 +45,8 @@ pub struct Items {
     room: usize,
 }
 
-/// A map that is open: its entries so far, how many its head claims, and the space. If it is at
-/// `half` an entry, the value of the last key is due, and null is in its place.
+/// A map that is open: its entries so far, how many its head claims, and the space that it may
+/// reserve of. If `half` is true the value of the last key is due, and null is in its place.
 #[derive(Drop)]
 pub struct Entries {
     entries: Vec<(Value, Value)>,
@@ -75,7 +75,7 @@ pub enum Frame {
 pub enum Handed {
     /// It was taken, or there was none.
     Taken,
-    /// It was the content of a tag, which is at hand in its place.
+    /// It was the content of a tag; the tag is handed on now in its place.
     Up,
     /// It is the whole, and is still at hand.
     Done,
@@ -104,8 +104,8 @@ fn put_half<E>(list: &mut Entries, half: Value) -> Result<(), Error<E>>
     Ok(())
 }
 
-/// Hands a value, if one was read, to the innermost level. A tag is whole with it, and the level
-/// around it the innermost then.
+/// Hands a value, if one was read, to the innermost level. If that is a tag the tag is whole, and
+/// the level around it is the innermost.
 fn hand<E>(
     alloc: Global,
     below: &mut Vec<Frame>,
@@ -363,8 +363,8 @@ fn put_half_leaf<R: Read>(
     }
 }
 
-/// Reads items into an array as long as no items follow in them. The title of the item after them;
-/// none if it is whole.
+/// Reads items without items in them into an array, up to the first item that has some, and gives
+/// its title; none if the array is whole before.
 fn fill_items<R: Read>(
     alloc: Global,
     decoder: &mut Decoder<R>,
@@ -401,8 +401,7 @@ fn fill_items<R: Read>(
     }
 }
 
-/// Reads items into a map as long as no items follow in them. The title of the item after them;
-/// none if it is whole.
+/// As `fill_items`, of keys and values into a map.
 fn fill_entries<R: Read>(
     alloc: Global,
     decoder: &mut Decoder<R>,
@@ -440,8 +439,8 @@ fn fill_entries<R: Read>(
     }
 }
 
-/// Reads items into the innermost level as long as no items follow in them. The title of the item
-/// after them; none if the level is whole.
+/// Reads items without items in them into the innermost level, up to the first item that has some,
+/// and gives its title; none if the level is whole before.
 fn fill<R: Read>(
     alloc: Global,
     decoder: &mut Decoder<R>,
@@ -504,7 +503,8 @@ fn room_in(top: &Frame) -> usize
 enum Opened {
     /// A level.
     Level(Frame),
-    /// None: its title, or that after its tag, is at hand.
+    /// No level: a leaf, by the tag of a bignum if there is one, and the place and header of its
+    /// title.
     Leaf(Option<u64>, usize, Header),
 }
 

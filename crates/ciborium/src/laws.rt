@@ -263,7 +263,7 @@ pub fn reading_takes<T: Deserialize>(value: &Value)
     ensures read { (limit : ℕ) (x : T) → ReadsAs T.refusal T.takes limit x (enc (view value.now))
         → (u : Tree) × (fold (view value.now) ≡ Some u) × (T.refusal u ≡ None) × T.takes u x }
 
-    // So is an item that the type refuses.
+    // The item that is read from the encoding is the folded value, also if the type refuses it.
     ensures item { (limit : ℕ) (t : Tree) → Reads (enc (view value.now)) limit t
         → fold (view value.now) ≡ Some t }
 {

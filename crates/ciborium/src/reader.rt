@@ -129,7 +129,8 @@ pub fn length_of(value: &Value) -> Option<usize>
     }
 }
 
-/// Whether the value is that tag over a byte string of that length, if there is one.
+/// Whether the value is the tag `number` over a byte string of the length `size`; true without a
+/// `size`.
 pub fn is_over(value: &Value, number: u64, size: Option<usize>) -> bool
     ensures { MatchOption size (result ≡ true) (λ n. MatchBool result
         ((x : List ℕ) × (view value.now ≡ tag number (bytes x)) × (length x ≡ n))
@@ -200,7 +201,8 @@ pub fn reserved(count: Option<usize>, room: usize) -> usize
     }
 }
 
-/// The space that is left if so many parts of that many items each are held and so many have come.
+/// The space that is left to reserve: without that of the `held - come` parts of `size` items each
+/// that are reserved and haven't come.
 pub fn room_left(room: usize, held: usize, come: usize, size: usize) -> usize
     ensures { result ≡ room - (held - come) * size }
 {

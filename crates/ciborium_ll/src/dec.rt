@@ -473,7 +473,8 @@ fn number_at_hand(info: u8, next: [u8; 8]) -> (u64, usize)
     }
 }
 
-/// Whether a first byte whose information says no number is a head. The number isn't read.
+/// Whether a first byte with information from 28 to 31 is a head: only 31, of strings, arrays, maps
+/// and the break, is. `n` is not looked at.
 fn is_head(major: u8, info: u8, n: u64) -> bool
     requires major { major < 8 }
     requires info { (28 ≤ info) × (info < 32) }

@@ -19,10 +19,10 @@ pub trait Source {
     /// Why no item came, or why the item was refused.
     type Error;
 
-    /// The item was given, and the source went from the one state to the other.
+    /// In the first state the source gives the item, and is in the second then.
     ghost gives: { Self → Tree → Self → Type 0 };
 
-    /// No item was given, for this reason, and the source was left so.
+    /// In the first state the source gives no item, for this reason, and is in the second then.
     ghost fails: { Self → Self.Error → Self → Type 0 };
 
     /// The fault for a refused item.

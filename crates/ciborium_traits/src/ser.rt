@@ -11,19 +11,19 @@ use ciborium_value::Integer;
 /// Takes items piece by piece: each call adds one event, a leaf or the beginning of a tag, an array
 /// or a map, whose parts follow it.
 ///
-/// An implementation says in its meaning what it is to come to (`Plan`), when these events are what
-/// it still has to take for that (`due`), and how it is left when it refused one of them (`torn`).
+/// An implementation says in its meaning what it has to become (`Plan`), which events it still has
+/// to take for that (`due`), and how it is left when it refused one of them (`torn`).
 pub trait Sink {
     /// Why an event was not taken.
     type Error;
 
-    /// What a sink is to come to.
+    /// What a sink has to become: its state after all events.
     ghost Plan: { Type 0 };
 
-    /// If it takes these events, it comes to what was planned.
+    /// Once it has taken these events, it is what was planned.
     ghost due: { Plan → List Event → Self → Type 0 };
 
-    /// It stopped on the way to what was planned.
+    /// How it is left if it refused an event before it was what was planned.
     ghost torn: { Plan → Self → Type 0 };
 
     /// Adds an integer.

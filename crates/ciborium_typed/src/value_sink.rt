@@ -52,7 +52,8 @@ impl ValueSink {
         self.items
     }
 
-    /// Puts an item if it is awaited, and each container that is full then.
+    /// Puts an item into the innermost open container, and each container that is full then into
+    /// the one around it, or among the whole items.
     fn fill(&mut self, item: Value) -> Result<(), AllocError>
         ensures ok { OnOk result (state_of self.new ≡ added (view item) (state_of self.old)) }
         ensures err { OnErr result (emptied (state_of self.new) ≡ emptied (state_of self.old)) }

@@ -9,7 +9,7 @@ use coset::{
     PartyInfo, ProtectedHeader, SuppPubInfo, TaggedCborSerializable, ValueTryAs,
 };
 use coset_labels::tuples::three;
-use coset_recipients::{Parts, read_parts};
+use coset_recipients::{PartValues, Parts};
 use std::alloc::{AllocError, Global};
 
 /// What an item is read as, or none after the text of its error.
@@ -206,14 +206,12 @@ fn parts(to: &mut Out, item: &str) -> Option<Parts> {
 fn parts_of(alloc: Global, value: Value) -> Result<Parts, CoseError> {
     match three(value.try_as_array()?) {
         Some((protected, unprotected, content)) => {
-            read_parts(
-                alloc,
+            let values = PartValues {
                 protected,
                 unprotected,
                 content,
-                Limits::default(),
-                "bstr",
-            )
+            };
+            values.read(alloc, Limits::default(), "bstr")
         }
         None => Err(CoseError::UnexpectedItem("array", "array with 3 items")),
     }

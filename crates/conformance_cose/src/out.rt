@@ -10,7 +10,7 @@ pub enum NoAnswer {
     Memory,
     /// No call has this name and so many arguments.
     NoCall,
-    /// An argument stands for nothing.
+    /// An argument is none that the call takes.
     NoArgument,
 }
 

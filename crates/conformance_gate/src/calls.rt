@@ -14,7 +14,7 @@ pub fn answer(to: &mut Out, row: &str) {
     end(to, row);
 }
 
-/// What the call returns, with its input whole.
+/// What the call returns over the whole input.
 pub fn uncut(to: &mut Out, row: &str) {
     let mut row = row;
     let name = words::word(to, &mut row);
@@ -22,7 +22,7 @@ pub fn uncut(to: &mut Out, row: &str) {
     end(to, row);
 }
 
-/// No call has arguments that are left.
+/// Refuses a row with more arguments than its call has.
 fn end(to: &mut Out, row: &str) {
     if !row.is_empty() {
         to.refuse(NoAnswer::NoCall);

@@ -45,7 +45,7 @@ pub fn answers(to: &mut Out, row: &mut &str) {
     add(to, &stretch);
 }
 
-/// A call with its argument at this place apart.
+/// A call, split at the argument with this place.
 fn parted<'a>(to: &mut Out, place: usize, call: &'a str) -> Call<'a> {
     let mut behind = call;
     for _ in 0..place {

@@ -10,7 +10,7 @@ use std::alloc::Global;
 /// How a run ends.
 pub type Ended = Result<Counts, GateFault<End>>;
 
-/// By which call a run goes.
+/// Which of the four calls of the gate makes a run.
 #[derive(Clone, Copy)]
 enum Way {
     Plain,
@@ -19,7 +19,8 @@ enum Way {
     StrictWithin(Limits),
 }
 
-/// It has no clause, so that its callers carry none of the gate's.
+/// A run of `gate`. It has no contract: so the gate's many clauses are not proved over again in its
+/// callers.
 fn gated<W: Write, P: Report>(
     alloc: Global,
     input: &[u8],

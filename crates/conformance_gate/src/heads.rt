@@ -12,7 +12,7 @@ pub fn first(to: &mut Out, row: &mut &str) {
     }
 }
 
-/// The first head, by the call that gives none.
+/// The first head, by the calls that leave it in the decoder, `take_head` and `pull_head`.
 pub fn asked(to: &mut Out, row: &mut &str) {
     let input = words::bytes(to, row);
     match callers::heads::head_asked(&input) {

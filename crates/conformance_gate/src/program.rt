@@ -3,7 +3,7 @@ use crate::out::{NoAnswer, Out};
 use crate::words;
 use ciborium_ll::Io;
 use cose_gate::{Limits, Mem, Terms, Write};
-use cose_gate_command::{NotRun, ask, ended, pass, pass_arguments};
+use cose_gate_command::{NotRun, ask, ended, pass};
 use std::alloc::Global;
 use std::io::{BufWriter, Cursor};
 use test_tools::Held;
@@ -141,17 +141,14 @@ pub fn pass_command(to: &mut Out, row: &mut &str) {
     let all = words::owned(to, row);
     let mut out = shown_writer(to);
     let mut err = shown_writer(to);
-    let end = match pass_arguments(&all) {
-        Some(arguments) => pass(
-            to.alloc(),
-            arguments,
-            accepted,
-            &mut input.as_slice(),
-            &mut out,
-            &mut err,
-        ),
-        None => Err(NotRun::Usage),
-    };
+    let end = pass(
+        to.alloc(),
+        &all,
+        accepted,
+        &mut input.as_slice(),
+        &mut out,
+        &mut err,
+    );
     add_end(to, end, shown(&out), shown(&err));
 }
 
@@ -166,7 +163,8 @@ fn add_end(to: &mut Out, end: Result<u8, NotRun>, out: &[u8], err: &[u8]) {
     }
 }
 
-/// It has no clause, so that its callers carry none of the program's.
+/// The program by its arguments. It has no contract: so the program's clauses are not proved over
+/// again in its callers.
 fn commanded<W: Write, E: Write>(
     alloc: Global,
     all: &[String],

@@ -40,7 +40,7 @@ fn is_comment(line: &str) -> bool {
     line.is_empty() || line.starts_with('#')
 }
 
-/// Whether the row in this line differs. If so, it is found.
+/// Whether the row in this line differs. If it does, it is added to the findings.
 fn compare(alloc: Global, index: usize, line: &str, findings: &mut Out) -> bool {
     let Some((call, due)) = line.split_once(" -> ") else {
         number(index, findings);

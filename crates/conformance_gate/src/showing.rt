@@ -31,11 +31,22 @@ fn add_page(to: &mut Out, options: Options<'_>, keys: Option<&[u8]>, input: &[u8
     let mut page = String::new(to.alloc());
     match BufReader::with_capacity(to.alloc(), 16, input) {
         Ok(input) => {
-            let end = show_as(to.alloc(), options, keys, input, &mut page);
-            add_ended(to, page.as_str(), end);
+            match show_as(to.alloc(), options, keys, input, &mut page) {
+                Ok(Some(number)) => add_unreached(to, page.as_str(), number),
+                Ok(None) => add_ended(to, page.as_str(), Ok(())),
+                Err(stop) => add_ended(to, page.as_str(), Err(stop)),
+            }
         }
         Err(_) => to.refuse(NoAnswer::Memory),
     }
+}
+
+/// Appends the status, a text, and the number of the item at which the gate stops.
+fn add_unreached(to: &mut Out, text: &str, number: u64) {
+    to.text("4; ");
+    to.lines(text);
+    to.text("; the gate stops at item ");
+    to.show(&number);
 }
 
 /// Appends the status, a text (`-` for none), and why it ended early.

@@ -48,8 +48,9 @@ impl<J: Judge> Judge for Pieces<J> {
     }
 }
 
-/// The result of a check, within limits if there are some, and how many bytes were taken. It has no
-/// clause but the space, so that its callers carry none of the check's.
+/// The result of a check, within limits if there are some, and how many bytes were taken. Its
+/// contract is only that the buffer isn't empty: so the check's clauses are not proved over again
+/// in its callers.
 fn checked<J: Judge>(
     alloc: Global,
     limits: Option<Limits>,

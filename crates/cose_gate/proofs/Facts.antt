@@ -11,7 +11,7 @@ use Rattle.ciborium.specs.declared.de.Error.TheVariants as de
 use Rattle.ciborium.proofs.Excludes.{excludes}
 use Rattle.cose_gate_core.specs.Asked.{folded_over, IsFront}
 use Rattle.cose_gate_core.specs.Questions.{Question}
-use Rattle.cose_gate_core.specs.Outcome.{Rules, Sight, Made, IsFaultOf, StandsIn, TakesOne, IsNoReaderFault, Outcome, Answers}
+use Rattle.cose_gate_core.specs.Outcome.{Rules, GateState, Made, IsFaultOf, StandsIn, TakesOne, IsNoReaderFault, Outcome, Answers}
 use Rattle.cose_gate_core.specs.Run.{Step, Run, Course, asked_of, written_of, text_of, passes, questions_of, output_of, entries_of, passed_count, refused_count}
 use Rattle.cose_gate_core.specs.declared.gating.Counts.{Counts}
 use Rattle.cose_gate_core.specs.declared.gating.GateFault.{GateFault}
@@ -19,7 +19,7 @@ use Rattle.cose_gate_core.specs.declared.gating.GateFault.TheVariants.{Decode, W
 use Rattle.cose_gate_core.specs.Anew.{bytes_of}
 use Rattle.cose_gate_core.proofs.Placed.{told}
 use Rattle.cose_gate_core.proofs.Within.{Twin, Twins, Within, Split, course_within, unreadable_ends, nothing_unreadable, twins_questions, twins_output, twins_entries, twins_count, twins_split, place_behind}
-use Rattle.cose_gate.specs.Gate.{Call, IfThrough, IfWrite, IfMemory, StopsAt, Noted, AskedFront, NotedFront, WrittenFront, Torn, Refused, AsksAll, WritesAll, NotesAll, CountsAll, Stops, AsksFront, NotesFront, WritesFront, Tears, WritesWhole, HoldsNoMemory}
+use Rattle.cose_gate.specs.Gate.{Call, IfThrough, IfWrite, IfMemory, StopsAt, Noted, AskedFront, NotedFront, WrittenFront, WriteFailed, OutOfMemory, AsksAll, WritesAll, NotesAll, CountsAll, Stops, AsksFront, NotesFront, WritesFront, Tears, WritesWhole, HoldsNoMemory}
 
 damaged : (n stop : ℕ) (more : List ℕ) (f : Fault) → Damage stop more n f → IsUnreadableWithin n more
 damaged n stop more f d v rest w = excludes stop more n f d v rest w
@@ -57,13 +57,13 @@ module _ {T S : Type 0} (rules : Rules T S) where
   same_bytes (c ∷ cs) [] t = absurd t
   same_bytes (c ∷ cs) (s ∷ ss) t = ap (λ (i : Item). i.bytes ++ bytes_of cs) t.0.item ∙ ap (λ z. s.item.bytes ++ z) (same_bytes cs ss t.1)
 
-  -- none are the twins of none
+  -- only an empty list pairs with an empty list
   pair_none : (cs ds : List Step) → Pair cs ds → ds ≡ [] → cs ≡ []
   pair_none [] ds t e = refl
   pair_none (c ∷ cs) [] t e = absurd t
   pair_none (c ∷ cs) (d ∷ ds) t e = absurd (let no : d ∷ ds ≡ [] = e in cc)
 
-  module _ (old new : Sight T S) where
+  module _ (old new : GateState T S) where
     noted : (cs ss : List Step) → Pair cs ss → new.state ≡ folded_over rules.folded old.state (entries_of cs) → Noted rules old new ss
     noted cs ss t e = record { entries = entries_of cs; are = twins_entries rules.limits rules.allows rules.aad cs ss t; state = e }
 
@@ -292,7 +292,7 @@ module _ {T S : Type 0} (rules : Rules T S) where
         only c (d ∷ []) t = (d, refl, t.0)
         only c (d ∷ e ∷ ds) t = absurd t.1
 
-        torn : (r : Result Counts (GateFault E)) → Outcome ends rules old new b r → IfWrite r (Torn rules old new ss)
+        torn : (r : Result Counts (GateFault E)) → Outcome ends rules old new b r → IfWrite r (WriteFailed rules old new ss)
         torn (Ok c) o = tt
         torn (Err (Decode e)) o = tt
         torn (Err Write) o =
@@ -327,7 +327,7 @@ module _ {T S : Type 0} (rules : Rules T S) where
         pair_length (c ∷ cs) [] t = absurd t
         pair_length (c ∷ cs) (d ∷ ds) t = let h = pair_length cs ds t.1 in omega arith
 
-        whole_texts : (r : Result Counts (GateFault E)) → Outcome ends rules old new b r → IfMemory r (Refused rules old new ss)
+        whole_texts : (r : Result Counts (GateFault E)) → Outcome ends rules old new b r → IfMemory r (OutOfMemory rules old new ss)
         whole_texts (Ok c) o = tt
         whole_texts (Err (Decode e)) o = tt
         whole_texts (Err Write) o = tt
@@ -359,7 +359,7 @@ module _ {T S : Type 0} (rules : Rules T S) where
 
             refused : (texts : List Step)
                 → ((texts ≡ s.front) × (o.asked ≢ questions_of rules.allows rules.aad s.behind)) ⊎ ((texts ≡ s.front ++ s.behind) × (o.asked ≡ questions_of rules.allows rules.aad s.behind))
-                → Appends old.written new.written (output_of rules.allows rules.aad texts) → Refused rules old new ss
+                → Appends old.written new.written (output_of rules.allows rules.aad texts) → OutOfMemory rules old new ss
             refused texts are a = record {
               done = s.front;
               last = s.behind;
@@ -381,13 +381,13 @@ module _ {T S : Type 0} (rules : Rules T S) where
             }
 
             by_texts : ((o.texts ≡ o.done) × (o.asked ≢ questions_of rules.allows rules.aad o.last))
-                ⊎ ((o.texts ≡ o.done ++ o.last) × (o.asked ≡ questions_of rules.allows rules.aad o.last)) → Refused rules old new ss
+                ⊎ ((o.texts ≡ o.done ++ o.last) × (o.asked ≡ questions_of rules.allows rules.aad o.last)) → OutOfMemory rules old new ss
             by_texts (inl e) = refused s.front (inl (refl, λ all. e.1 (all ∙ sym (same_questions o.last s.behind s.then))))
                 (written_same _ _ (ap (output_of rules.allows rules.aad) e.0 ∙ same_output o.done s.front s.first) o.written)
             by_texts (inr e) = refused (s.front ++ s.behind) (inr (refl, e.1 ∙ same_questions o.last s.behind s.then))
                 (written_same _ _ (ap (output_of rules.allows rules.aad) e.0 ∙ same_output (o.done ++ o.last) w.front w.twins ∙ ap (output_of rules.allows rules.aad) s.whole) o.written)
 
-    -- the facts
+    -- the facts of the contract, each from what the gate returned
     abbrev the_call : {E : Type 0} → (E → Bool) → Call T S E
     the_call ends = record { ends = ends; rules = rules; old = old; new = new }
 

@@ -123,7 +123,7 @@ title_tells None l₁ o₀ o₁ h Q t q = tt
 title_tells (Some b) None o₀ o₁ h Q t q = absurd t.taken
 title_tells (Some b) (Some rest) o₀ o₁ h Q t q = q b rest (record { title = t.bytes; is_title = t.has; whole = t.taken })
 
--- the same bytes, by another name for the fault
+-- the same fault of the same bytes, by another relation that also holds of it
 pub known_tells : {E : Type 0} (ends : E → Bool) (l : Option (List ℕ)) (o room room' : ℕ) (D D' : ℕ → List ℕ → Why → Type 0) (f : StreamFault E) → room ≤ room'
     → ((stop : ℕ) (b : List ℕ) (w : Why) → length b ≤ stop → D stop b w → D' stop b w) → Names ends D room l o f → Names ends D' room' l o f
 known_tells ends l o room room' D D' f le step n = (n.0, go l n.1)

@@ -21,7 +21,7 @@ pieces_each room n (p ∷ ps) c =
     let le : p ≤ room = omega (arith, is) in
     All-cons (λ x. x ≤ room) p ps le (pieces_each room (n - p) ps c.2)
 
--- nothing is cut into no piece
+-- no bytes are cut into no pieces
 no_piece : (room n : ℕ) (pieces : List ℕ) → n ≡ 0 → Cut room n pieces → length pieces ≡ 0
 no_piece room n [] e c = let z : 0 ≡ 0 = omega arith in z
 no_piece room n (p ∷ ps) e c = let k : 0 < n = c.1 in absurd (omega (arith, k, e))

@@ -11,7 +11,7 @@ use Rattle.ciborium.specs.declared.de.Error.TheVariants as de
 use Rattle.cose_gate_core.specs.Asked.{folded_over, IsFront}
 use Rattle.cose_gate_core.specs.Calls.{rules_by, sight_of}
 use Rattle.cose_gate_core.specs.Findings.{Bounds}
-use Rattle.cose_gate_core.specs.Outcome.{Rules, Sight, Answers, IsFaultOf, StandsIn, TakesOne}
+use Rattle.cose_gate_core.specs.Outcome.{Rules, GateState, Answers, IsFaultOf, StandsIn, TakesOne}
 use Rattle.cose_gate_core.specs.Outcome.{IsNoReaderFault, IfTooLong}
 use Rattle.cose_gate_core.specs.Outcome.{reader_failures, writer_failures}
 use Rattle.cose_gate_core.specs.Questions.{Question}
@@ -30,8 +30,8 @@ use Rattle.cose_gate_core.specs.Anew.{bytes_of, AreEntries}
 pub record Call (T S E : Type 0) : Type 0 where
   pub ends : E → Bool
   pub rules : Rules T S
-  pub old : Sight T S
-  pub new : Sight T S
+  pub old : GateState T S
+  pub new : GateState T S
 
 -- by what the bounds of its reader, writer, report and judge bring, within these limits
 -- and over this external data
@@ -48,7 +48,7 @@ call_of r w p j limits aad decoder out report judge decoder' out' report' judge'
 -- P holds of the bytes to come, if these are known, of the steps of the run over them, and of what
 -- is left after its items. Of a step's entry it isn't said which of a shape's faults is named, and
 -- so P holds of each way to say it.
-abbrev pub OverRun : {T S : Type 0} → Rules T S → Sight T S
+abbrev pub OverRun : {T S : Type 0} → Rules T S → GateState T S
     → (List ℕ → List Step → List ℕ → Type 0) → Type 0
 OverRun rules old P =
     (b : List ℕ) (ss : List Step) (rest : List ℕ) → old.left ≡ Some b
@@ -68,28 +68,28 @@ IfThrough ends (Err Write) P = Unit {0}
 IfThrough ends (Err Memory) P = Unit {0}
 
 -- a report was told these steps' entries
-pub record Noted {T S : Type 0} (rules : Rules T S) (old new : Sight T S)
+pub record Noted {T S : Type 0} (rules : Rules T S) (old new : GateState T S)
     (ss : List Step) : Type 0 where
   pub entries : List Entry
   pub are : AreEntries rules.limits rules.allows rules.aad ss entries
   pub state : new.state ≡ folded_over rules.folded old.state entries
 
 -- a judge was told a beginning of these steps' questions
-pub record AskedFront {T S : Type 0} (rules : Rules T S) (old new : Sight T S)
+pub record AskedFront {T S : Type 0} (rules : Rules T S) (old new : GateState T S)
     (ss : List Step) : Type 0 where
   pub asked : List Question
   pub front : IsFront asked (questions_of rules.allows rules.aad ss)
   pub told : new.told ≡ folded_over rules.decided old.told asked
 
 -- a report was told the entries of a beginning of these steps
-pub record NotedFront {T S : Type 0} (rules : Rules T S) (old new : Sight T S)
+pub record NotedFront {T S : Type 0} (rules : Rules T S) (old new : GateState T S)
     (ss : List Step) : Type 0 where
   pub steps : List Step
   pub front : IsFront steps ss
   pub noted : Noted rules old new steps
 
 -- a beginning of these steps' output was written
-pub record WrittenFront {T S : Type 0} (rules : Rules T S) (old new : Sight T S)
+pub record WrittenFront {T S : Type 0} (rules : Rules T S) (old new : GateState T S)
     (ss : List Step) : Type 0 where
   pub text : List ℕ
   pub front : IsFront text (output_of rules.allows rules.aad ss)
@@ -97,7 +97,7 @@ pub record WrittenFront {T S : Type 0} (rules : Rules T S) (old new : Sight T S)
 
 -- one message that passes is torn: what is before it was done whole, all was asked about it, it
 -- wasn't noted, a beginning of its encoding was written, and the offset is the one after its item
-pub record Torn {T S : Type 0} (rules : Rules T S) (old new : Sight T S)
+pub record WriteFailed {T S : Type 0} (rules : Rules T S) (old new : GateState T S)
     (ss : List Step) : Type 0 where
   pub done : List Step
   pub last : Step
@@ -117,7 +117,7 @@ pub record Torn {T S : Type 0} (rules : Rules T S) (old new : Sight T S)
 -- not, nothing of it was. It wasn't noted. At an item the offset is the one after it; between items
 -- the gate is in the bytes `more`, those to come after the last item that was done, and took none
 -- after the next item.
-pub record Refused {T S : Type 0} (rules : Rules T S) (old new : Sight T S)
+pub record OutOfMemory {T S : Type 0} (rules : Rules T S) (old new : GateState T S)
     (ss : List Step) : Type 0 where
   pub done : List Step
   pub last : List Step
@@ -143,7 +143,7 @@ pub record Refused {T S : Type 0} (rules : Rules T S) (old new : Sight T S)
 -- the reader tells that nothing is left; else with the fault of what is left. Of an item that is
 -- cut some bytes were taken. If all items were gone through the gate is in what is left after them,
 -- and in any case in the bytes that were to come.
-abbrev pub StopsAt : {T S E : Type 0} → (E → Bool) → ℕ → Sight T S → Sight T S → List ℕ → List ℕ
+abbrev pub StopsAt : {T S E : Type 0} → (E → Bool) → ℕ → GateState T S → GateState T S → List ℕ → List ℕ
     → Result Counts (GateFault E) → Type 0
 StopsAt ends n old new b rest (Ok counts) =
     (rest ≡ []) × (new.offset ≡ old.offset + length b) × (new.left ≡ Some [])
@@ -214,11 +214,11 @@ WritesFront c r =
 
 -- after Write: one message is torn
 abbrev pub Tears : {T S E : Type 0} → Call T S E → Result Counts (GateFault E) → Type 0
-Tears c r = OverRun c.rules c.old (λ b ss rest. IfWrite r (Torn c.rules c.old c.new ss))
+Tears c r = OverRun c.rules c.old (λ b ss rest. IfWrite r (WriteFailed c.rules c.old c.new ss))
 
 -- after Memory: whole encodings were written
 abbrev pub WritesWhole : {T S E : Type 0} → Call T S E → Result Counts (GateFault E) → Type 0
-WritesWhole c r = OverRun c.rules c.old (λ b ss rest. IfMemory r (Refused c.rules c.old c.new ss))
+WritesWhole c r = OverRun c.rules c.old (λ b ss rest. IfMemory r (OutOfMemory c.rules c.old c.new ss))
 
 -- a fault of decoding is never being out of memory
 abbrev pub HoldsNoMemory : {E : Type 0} → GateFault E → Type 0

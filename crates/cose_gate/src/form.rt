@@ -10,7 +10,7 @@ use coset_labels::TaggedCborSerializable;
 use coset_maced::CoseMac0;
 use coset_signed::CoseSign1;
 
-/// A message with one signature or one tag, and nobody else to ask about.
+/// A message with one signature or one tag, about which the judge is asked one question.
 #[derive(Debug, Clone, Copy, PartialEq, Eq)]
 pub enum Form {
     /// A COSE_Sign1.
@@ -19,7 +19,7 @@ pub enum Form {
     Mac0,
 }
 
-/// The message that a tag is of (RFC 9052, section 2).
+/// Which message has this tag (RFC 9052, section 2).
 pub fn form_of(number: u64) -> Option<Form>
     ensures { MatchOption result (IsSingleTag number → ⊥) (λ form. number ≡ tag_number form) }
 {
@@ -33,7 +33,7 @@ pub fn form_of(number: u64) -> Option<Form>
 }
 
 impl Form {
-    /// What a judge is told that it is.
+    /// The kind of message that a judge is told.
     pub fn kind(self) -> MessageKind
         ensures { result ≡ kind_of self }
     {
@@ -43,7 +43,7 @@ impl Form {
         }
     }
 
-    /// What a fault says that was expected in the place of its payload, as the gate says it.
+    /// The text of a fault, as of the gate, for what was expected in the place of the payload.
     pub fn payload(self) -> &'static str {
         match self {
             Form::Sign1 => "bstr or nil",

@@ -28,7 +28,7 @@ pub fn next_head<R: Read>(decoder: &mut Decoder<R>) -> Result<Header, StreamFaul
     Ok(header)
 }
 
-/// The tag of a message, by the message.
+/// Takes the tag of a message, and says which message it is of.
 pub fn message_tag<R: Read>(decoder: &mut Decoder<R>) -> Result<Form, StreamFault<R::Error>>
     ensures ok { IfOk result (λ form. Takes (seen R.Read decoder.old) (seen R.Read decoder.new)
         (λ b. Title b (Tag (tag_number form)))) }
@@ -58,7 +58,7 @@ fn array_of_four(header: Header) -> Option<Option<usize>>
     }
 }
 
-/// The fault of a title that is none of an array of four elements.
+/// The fault of a title that doesn't begin an array of four elements.
 fn no_array<E>(header: Header) -> StreamFault<E>
     ensures { IsUnexpected result }
 {
@@ -107,7 +107,7 @@ fn payload_of(header: Header) -> Payload
     }
 }
 
-/// The fault of a title that is none of a payload, by what was expected.
+/// The fault of a title that doesn't begin a payload, by what was expected.
 fn no_payload<E>(header: Header, want: &'static str) -> StreamFault<E>
     ensures { IsUnexpected result }
 {

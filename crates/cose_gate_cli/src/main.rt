@@ -106,7 +106,7 @@ fn run<R: Read, W: Write, E: Write>(
     err: &mut E,
 ) -> u8
     ensures { EndsBy E.Write (spec.arguments (map string_bytes all.now))
-        (option_copied keys.entry)
+        (option_copied keys.entry) fault.now
         (devices_of R.Read W.Write input.old out.old)
         (devices_of R.Read W.Write input.new out.new) result err.old err.new }
 {

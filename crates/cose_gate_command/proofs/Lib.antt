@@ -1,2 +1,6 @@
+pub mod Endings
 pub mod Ends
-pub mod SaidAlone
+pub mod Handing
+pub mod NotRuns
+pub mod Reasons
+pub mod SaidIfQuiet

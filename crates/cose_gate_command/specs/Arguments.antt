@@ -1,9 +1,11 @@
--- The arguments of the command line: cose-gate [--strict] [--verbose] KEYS [AADHEX].
-use Rattle.std.specs.Prelude.{◌&&◌, ◌||◌, ℕ, List, [], ◌∷◌, Option, None, option_map, option_copied, Bool, true, false, if◌then◌else◌, not, nat_eq, bytes_eq, codes, filter}
+-- The arguments of the command lines.
+use Rattle.std.specs.Prelude.{◌&&◌, ◌||◌, ℕ, List, [], ◌∷◌, Option, None, Some, option_map, option_and_then, option_copied, Bool, true, false, if◌then◌else◌, not, nat_eq, bytes_eq, codes, filter}
 use Rattle.cose_gate_program.specs.Words.{words}
 use Rattle.cose_gate_command.specs.declared.arguments.Arguments.{Arguments as Held}
+use Rattle.cose_gate_command.specs.declared.options.AskArguments.{AskArguments as HeldAsk}
+use Rattle.cose_gate_command.specs.declared.options.PassArguments.{PassArguments as HeldPass}
 
--- what the arguments ask for
+-- what the arguments of cose-gate ask for: [--strict] [--verbose] KEYS [AADHEX]
 pub record Arguments : Type 0 where
   pub strict : Bool
   pub verbose : Bool
@@ -27,12 +29,11 @@ abbrev pub has : List ℕ → List (List ℕ) → Bool
 has word [] = false
 has word (w ∷ ws) = bytes_eq w word || has word ws
 
--- no option has another name
-abbrev pub are_known : List (List ℕ) → Bool
-are_known [] = true
-are_known (w ∷ ws) =
-    (not (is_option w) || (bytes_eq w (codes "--strict") || bytes_eq w (codes "--verbose")))
-    && are_known ws
+-- no option has another name than this one and --strict
+abbrev pub are_known : List ℕ → List (List ℕ) → Bool
+are_known name [] = true
+are_known name (w ∷ ws) =
+    (not (is_option w) || (bytes_eq w (codes "--strict") || bytes_eq w name)) && are_known name ws
 
 -- KEYS, and AADHEX if it is there, with these options
 abbrev pub of_files : Bool → Bool → List (List ℕ) → Option Arguments
@@ -42,7 +43,44 @@ of_files s v ws = option_map
 -- the options, anywhere, and the other words
 abbrev pub arguments : List (List ℕ) → Option Arguments
 arguments ws =
-    if are_known ws
+    if are_known (codes "--verbose") ws
     then of_files (has (codes "--strict") ws) (has (codes "--verbose") ws)
     (filter (λ w. not (is_option w)) ws)
     else None
+
+-- what the arguments of cose-ask ask for: [--strict] [--lines] [AADHEX]
+pub record AskArguments : Type 0 where
+  pub strict : Bool
+  pub lines : Bool
+  pub aad : Option (List ℕ)
+
+abbrev pub of_aad : Bool → Bool → List (List ℕ) → Option AskArguments
+of_aad s l [] = Some (record { strict = s; lines = l; aad = None })
+of_aad s l (aad ∷ []) = Some (record { strict = s; lines = l; aad = Some aad })
+of_aad s l (aad ∷ more ∷ ws) = None
+
+abbrev pub ask_arguments : List (List ℕ) → Option AskArguments
+ask_arguments ws =
+    if are_known (codes "--lines") ws
+    then of_aad (has (codes "--strict") ws) (has (codes "--lines") ws)
+    (filter (λ w. not (is_option w)) ws)
+    else None
+
+-- the arguments of cose-pass: those of cose-gate without --verbose, with ACCEPTED as KEYS
+abbrev pub unless_verbose : Arguments → Option Arguments
+unless_verbose a = if a.verbose then None else Some a
+
+abbrev pub pass_arguments : List (List ℕ) → Option Arguments
+pass_arguments ws = option_and_then unless_verbose (arguments ws)
+
+-- the same, as the code has them
+abbrev pub ask_view : HeldAsk → AskArguments
+ask_view a = record { strict = a.strict; lines = a.lines; aad = option_copied a.aad }
+
+abbrev pub pass_view : HeldPass → Arguments
+pass_view a = record {
+  strict = a.strict;
+  verbose = false;
+  keys = a.accepted.now;
+  aad = option_copied a.aad;
+}

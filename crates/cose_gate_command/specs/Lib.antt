@@ -1,4 +1,8 @@
 pub mod Arguments
+pub mod Asking
 pub mod Ends
+pub mod KeyFiles
 pub mod Options
-pub mod Saying
+pub mod Passing
+pub mod QuietLines
+pub mod Waiting

@@ -1,4 +1,8 @@
 //! The file of the records that were accepted.
+ghost use Rattle.std.specs.Prelude.{◌≡◌, MatchResult, IfErr};
+ghost use Rattle.cose_gate_command.specs.Passing as spec;
+ghost use Rattle.cose_gate_command.specs.Passing.{AcceptsNot, IsAccepted, IsLineFault};
+
 use crate::not_run::NotRun;
 use crate::question::read_question;
 use hex::FromHexError;
@@ -15,7 +19,10 @@ use std::mem;
 ///
 /// # Errors
 /// `LineNotHex` or `LineNoRecord` with the number of the first bad line, and `Memory`.
-pub fn read_accepted(alloc: Global, bytes: Vec<u8>) -> Result<Vec<u8>, NotRun> {
+pub fn read_accepted(alloc: Global, bytes: Vec<u8>) -> Result<Vec<u8>, NotRun>
+    ensures { MatchResult result (λ records. IsAccepted bytes.items records.items)
+        (λ why. AcceptsNot bytes.items why) }
+{
     if is_binary(&bytes) {
         return Ok(bytes);
     }
@@ -28,7 +35,9 @@ pub fn read_accepted(alloc: Global, bytes: Vec<u8>) -> Result<Vec<u8>, NotRun> {
 }
 
 /// Whether a file is binary.
-fn is_binary(bytes: &[u8]) -> bool {
+fn is_binary(bytes: &[u8]) -> bool
+    ensures { result ≡ spec.is_binary bytes.now }
+{
     matches!(bytes.get(7), Some(0))
 }
 
@@ -55,7 +64,9 @@ impl Lines {
     }
 
     /// Takes the next byte.
-    fn take(&mut self, byte: u8) -> Result<(), NotRun> {
+    fn take(&mut self, byte: u8) -> Result<(), NotRun>
+        ensures { IfErr result IsLineFault }
+    {
         match byte {
             b'\n' => self.end_line(),
             b' ' | b'\t' | b'\r' => {
@@ -67,7 +78,9 @@ impl Lines {
     }
 
     /// Adds a byte to the field, or begins the next field with it.
-    fn add(&mut self, byte: u8) -> Result<(), NotRun> {
+    fn add(&mut self, byte: u8) -> Result<(), NotRun>
+        ensures { IfErr result IsLineFault }
+    {
         if self.is_field_ended {
             self.field.clear();
             self.is_field_ended = false;
@@ -79,7 +92,9 @@ impl Lines {
     }
 
     /// Ends the line: its last field is a record, if it has fields.
-    fn end_line(&mut self) -> Result<(), NotRun> {
+    fn end_line(&mut self) -> Result<(), NotRun>
+        ensures { IfErr result IsLineFault }
+    {
         let field = mem::replace(&mut self.field, Vec::new(self.alloc));
         if !field.is_empty() {
             let record = read_record(self.alloc, &field, self.number)?;
@@ -91,7 +106,9 @@ impl Lines {
     }
 
     /// Appends a record.
-    fn append(&mut self, record: &[u8]) -> Result<(), NotRun> {
+    fn append(&mut self, record: &[u8]) -> Result<(), NotRun>
+        ensures { IfErr result IsLineFault }
+    {
         match self.records.extend_from_slice(record) {
             Ok(()) => Ok(()),
             Err(_) => Err(NotRun::Memory),
@@ -100,7 +117,9 @@ impl Lines {
 }
 
 /// The record that the field of this line encodes in hex.
-fn read_record(alloc: Global, field: &[u8], line: u64) -> Result<Vec<u8>, NotRun> {
+fn read_record(alloc: Global, field: &[u8], line: u64) -> Result<Vec<u8>, NotRun>
+    ensures { IfErr result IsLineFault }
+{
     let record = match hex::decode(alloc, field) {
         Ok(record) => record,
         Err(FromHexError::OutOfMemory) => return Err(NotRun::Memory),

@@ -72,7 +72,7 @@ impl<'a> Words<'a> {
 }
 
 /// Whether a word is an option: it begins with a hyphen.
-fn is_option(word: &str) -> bool
+pub(crate) fn is_option(word: &str) -> bool
     ensures { result ≡ spec.is_option word.now }
 {
     matches!(word.as_bytes(), [b'-', ..])

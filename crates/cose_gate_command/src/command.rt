@@ -16,7 +16,8 @@ pub const USAGE: &str = "usage: cose-gate [--strict] [--verbose] KEYS [AADHEX] <
 
 /// The program over the arguments after its name, if `keys` is what the file holds that they name,
 /// or `fault` says why it can't be read. If they aren't its arguments nothing is read, the
-/// line on `err` is `USAGE`, and the status 2. Lines and statuses are else those of `run_with`.
+/// line on `err` is `USAGE`, and the status 2. Lines and statuses are else those of `run_with`; if
+/// KEYS can't be used, a line that begins with two blanks says why, and nothing else of the file.
 pub fn program<'a, R: Read, W: Write, E: Write>(
     alloc: Global,
     all: &'a [String],
@@ -27,7 +28,7 @@ pub fn program<'a, R: Read, W: Write, E: Write>(
     err: &mut E,
 ) -> u8
     ensures ran { EndsBy E.Write (spec.arguments (map string_bytes all.now))
-        (option_copied keys.entry)
+        (option_copied keys.entry) fault.now
         (devices_of R.Read W.Write input.old out.old)
         (devices_of R.Read W.Write input.new out.new) result err.old err.new }
     ensures kept { R.handle input.new ≡ R.handle input.old }

@@ -1,33 +1,64 @@
 //! The lines of a run whose last one waits.
+ghost use Rattle.std.specs.Prelude.{◌≡◌, ◌∷◌, []};
+ghost use Rattle.cose_gate_command.specs.Waiting.{Waiting, last_line, waits, waits_after};
+ghost use Rattle.cose_gate_program.specs.Writing.{LinesWritten, LinesWritten-prop, Wrote};
+
 use ciborium_ll::Write;
-use cose_gate_program::{GateFault, InputFault, Notice, Teller, write_notice};
+use ciborium_ll::log::Log;
+use cose_gate_program::{GateFault, InputFault, Notice, Teller, write_logged, write_notice};
 
 /// Writes the line of each item, and keeps the last line of the run.
 #[derive(Drop)]
-pub(crate) struct Ending<'a, W> {
+pub(crate) struct Ending<'a, W: Write> {
     out: &'a mut W,
-    last: Option<Notice>,
+    /// What is told last. It is lent, so that a clause can say what becomes of `out`.
+    last: &'a mut Option<Notice>,
+    /// What was told of items, and what the writer was at first. It is in contracts alone.
+    said: &'a mut Log<Notice>,
+    begun: Log<W>,
+    ghost spoke: { LinesWritten W.Write begun out.now said.now } by { LinesWritten-prop W.Write _ _ _ },
 }
 
 impl<'a, W: Write> Ending<'a, W> {
-    /// Lines on this writer.
-    pub(crate) fn new(out: &'a mut W) -> Ending<'a, W> {
-        Ending { out, last: None }
+    /// Lines on this writer, with a place for what is told last, and a log of what is said of
+    /// items.
+    pub(crate) fn new(
+        out: &'a mut W,
+        last: &'a mut Option<Notice>,
+        said: &'a mut Log<Notice>,
+    ) -> Ending<'a, W>
+        ensures begun { result.begun.items ≡ out.old ∷ [] }
+        ensures said { result.said.now.items ≡ [] }
+        ensures kept { result.out.ghost_name ≡ out.entry.ghost_name }
+        ensures place { result.last.ghost_name ≡ last.entry.ghost_name }
+    {
+        *said = Log::new();
+        let begun = Log::new().and(&*out);
+        Ending {
+            out,
+            last,
+            said,
+            begun,
+        }
     }
+}
 
-    /// Writes the last line, if that is how it ended, and hands all lines on.
-    pub(crate) fn end(&mut self, is_so: bool) {
-        match self.last.take() {
-            Some(last) if is_so => write_notice(&last, self.out),
-            _ => {
-                let _ = self.out.flush();
-            }
+/// Writes the last line of a run, if it ended so, and hands all lines on.
+pub(crate) fn end<W: Write>(is_so: bool, last: &Option<Notice>, out: &mut W)
+    ensures { Wrote W.Write out.old out.new (last_line is_so last.now) }
+{
+    match last {
+        Some(last) if is_so => write_notice(last, out),
+        _ => {
+            let _ = out.flush();
         }
     }
 }
 
 /// What a notice tells at last; none if it tells of an item.
-fn last_of(notice: &Notice) -> Option<Notice> {
+fn last_of(notice: &Notice) -> Option<Notice>
+    ensures { result ≡ waits notice.now }
+{
     match notice {
         Notice::Item(_) => None,
         Notice::Counts(counts) => Some(Notice::Counts(*counts)),
@@ -36,7 +67,9 @@ fn last_of(notice: &Notice) -> Option<Notice> {
     }
 }
 
-fn copy_of(fault: &GateFault<InputFault>) -> GateFault<InputFault> {
+fn copy_of(fault: &GateFault<InputFault>) -> GateFault<InputFault>
+    ensures { result ≡ fault.now }
+{
     match fault {
         GateFault::Decode(error) => GateFault::Decode(*error),
         GateFault::Write => GateFault::Write,
@@ -45,16 +78,22 @@ fn copy_of(fault: &GateFault<InputFault>) -> GateFault<InputFault> {
 }
 
 impl<'a, W: Write> Teller for Ending<'a, W> {
-    ghost State = { Unit {0} };
+    ghost State = { Waiting W };
 
-    ghost state = { λ _. tt };
+    ghost state = { λ l. record {
+      name = l.out.ghost_name;
+      begun = l.begun.items;
+      said = l.said.now.items;
+      place = l.last.ghost_name;
+      last = l.last.now;
+    } };
 
-    ghost folded = { λ s _. s };
+    ghost folded = { waits_after };
 
     fn tell(&mut self, notice: &Notice) {
         match last_of(notice) {
-            Some(last) => self.last = Some(last),
-            None => write_notice(notice, self.out),
+            Some(last) => *self.last = Some(last),
+            None => write_logged(notice, self.out, self.said),
         }
     }
 }

@@ -1,8 +1,13 @@
 //! What is said of KEYS.
+ghost use Rattle.std.specs.Prelude.{◌≡◌, option_copied};
+ghost use Rattle.std.specs.List.{list_all};
+ghost use Rattle.cose_gate_program.specs.Writing.{Wrote};
+ghost use Rattle.cose_gate_command.specs.KeyFiles as spec;
+
+use ciborium_ll::Write;
 use cose_gate_program::NotBegun;
-use cose_reasons::{Page, Stop, read_keys, write_char};
+use cose_reasons::{Page, write_char};
 use coset_labels::CoseError;
-use std::alloc::Global;
 use std::fmt;
 
 /// The file KEYS.
@@ -16,9 +21,38 @@ pub struct KeyFile<'a> {
     pub fault: &'a str,
 }
 
+/// Writes why KEYS can't be used, if that is why a run doesn't begin. Of the file it says only what
+/// kind it looks like.
+pub(crate) fn write_reason<W: Write>(why: NotBegun, file: KeyFile<'_>, out: &mut W)
+    ensures { Wrote W.Write out.old out.new
+        (spec.reason_line file.entry.fault.now (option_copied file.entry.bytes) why) }
+{
+    match why {
+        NotBegun::NoFile => write_indented(file.fault, out),
+        NotBegun::NoKeys(error) => write_indented(what_is(bytes_of(file), error), out),
+        NotBegun::NotHex | NotBegun::Memory => {}
+    }
+}
+
+/// The bytes of the file, which are none if it can't be read.
+fn bytes_of(file: KeyFile<'_>) -> &[u8]
+    ensures { result.now ≡ spec.bytes_or_none (option_copied file.entry.bytes) }
+{
+    file.bytes.unwrap_or(&[])
+}
+
+/// Writes a line that begins with two blanks, and flushes the writer. A fault of it is ignored.
+fn write_indented<W: Write>(text: &str, out: &mut W)
+    ensures { Wrote W.Write out.old out.new (spec.indented text.now) }
+{
+    let _ = out.write_all(b"  ");
+    let _ = out.write_all(text.as_bytes());
+    let _ = out.write_all(b"\n");
+    let _ = out.flush();
+}
+
 /// Writes why a run with these arguments doesn't begin.
 pub(crate) fn say_not_begun<P: fmt::Write>(
-    alloc: Global,
     why: NotBegun,
     file: KeyFile<'_>,
     aad: Option<&str>,
@@ -31,9 +65,10 @@ pub(crate) fn say_not_begun<P: fmt::Write>(
             page.write_str("\n");
         }
         NotBegun::NotHex => say_not_hex(aad.unwrap_or(""), page),
-        NotBegun::NoKeys(_) => {
+        NotBegun::NoKeys(error) => {
             say_name(file.name, page);
-            say_no_keys(alloc, file.bytes.unwrap_or(&[]), page);
+            page.write_str(what_is(bytes_of(file), error));
+            page.write_str("\n  KEYS has to be a COSE_KeySet (RFC 9052, section 7), in binary\n");
         }
         NotBegun::Memory => {}
     }
@@ -62,13 +97,10 @@ fn say_not_hex<P: fmt::Write>(text: &str, page: &mut Page<'_, P>) {
     page.write_str("  AADHEX: an odd number of digits\n");
 }
 
-/// What bytes are that aren't a key set, and what KEYS has to be.
-fn say_no_keys<P: fmt::Write>(alloc: Global, bytes: &[u8], page: &mut Page<'_, P>) {
-    page.write_str(what_is(alloc, bytes));
-    page.write_str("\n  KEYS has to be a COSE_KeySet (RFC 9052, section 7), in binary\n");
-}
-
-fn what_is(alloc: Global, bytes: &[u8]) -> &'static str {
+/// What a file looks like that is no key set for this reason.
+fn what_is(bytes: &[u8], error: CoseError) -> &'static str
+    ensures { result.now ≡ spec.what_is bytes.now error }
+{
     if bytes.is_empty() {
         return "the file is empty";
     }
@@ -78,10 +110,74 @@ fn what_is(alloc: Global, bytes: &[u8]) -> &'static str {
     if bytes.starts_with(b"-----BEGIN") {
         return "it begins with -----BEGIN, as a PEM file does";
     }
-    match read_keys(alloc, bytes) {
-        Err(Stop::OneKey) => "it is one COSE_Key; a key set is an array of keys, even of one",
-        Err(Stop::NoKeys(CoseError::DecodeFailed(_))) => "it isn't CBOR",
-        Err(Stop::NoKeys(CoseError::ExtraneousData)) => "it goes on after its first item",
-        _ => "cose-show shows what it holds",
+    text_or_fault(bytes, error)
+}
+
+/// Which text it is, or what the fault says of it.
+fn text_or_fault(bytes: &[u8], error: CoseError) -> &'static str
+    ensures { result.now ≡ spec.text_or_fault bytes.now error }
+{
+    if is_hex(bytes) {
+        return "it is text in hex, not binary";
     }
+    if is_base64(bytes) {
+        return "it is text in base64, not binary";
+    }
+    by_fault(bytes, error)
+}
+
+/// What the fault says of it.
+fn by_fault(bytes: &[u8], error: CoseError) -> &'static str
+    ensures { result.now ≡ spec.by_fault error bytes.now }
+{
+    match error {
+        CoseError::DecodeFailed(_) => "it isn't CBOR",
+        CoseError::ExtraneousData => "it goes on after its first item",
+        _ => map_or_other(bytes),
+    }
+}
+
+/// Whether it is a map, and if not who tells more.
+fn map_or_other(bytes: &[u8]) -> &'static str
+    ensures { result.now ≡ spec.map_or_other bytes.now }
+{
+    if is_map(bytes) {
+        return "it is a map, as one COSE_Key is; a key set is an array of keys";
+    }
+    "cose-show shows what it holds"
+}
+
+fn is_hex(bytes: &[u8]) -> bool
+    ensures { result ≡ list_all spec.is_of_hex bytes.now }
+{
+    bytes.iter().all(|byte| is_of_hex(*byte))
+}
+
+fn is_base64(bytes: &[u8]) -> bool
+    ensures { result ≡ list_all spec.is_of_base64 bytes.now }
+{
+    bytes.iter().all(|byte| is_of_base64(*byte))
+}
+
+/// Whether a byte is of a text in hex: a digit, or white space.
+fn is_of_hex(byte: u8) -> bool
+    ensures { result ≡ spec.is_of_hex byte }
+{
+    byte.is_ascii_hexdigit() || byte.is_ascii_whitespace()
+}
+
+/// Whether a byte is of a text in base64, of either alphabet, or white space.
+fn is_of_base64(byte: u8) -> bool
+    ensures { result ≡ spec.is_of_base64 byte }
+{
+    byte.is_ascii_alphanumeric()
+        || byte.is_ascii_whitespace()
+        || matches!(byte, b'+' | b'/' | b'-' | b'_' | b'=')
+}
+
+/// Whether an item begins as a map does (RFC 8949, section 3.1: major type 5).
+fn is_map(bytes: &[u8]) -> bool
+    ensures { result ≡ spec.is_map bytes.now }
+{
+    matches!(bytes, [160..=191, ..])
 }

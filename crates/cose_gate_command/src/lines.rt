@@ -1,4 +1,8 @@
 //! Questions as lines of text.
+ghost use Rattle.std.specs.Prelude.{◌≡◌, false, MatchOption, Err};
+ghost use Rattle.cose_gate_command.specs.Asking.{Hands, Sent};
+ghost use Rattle.cose_gate_command.specs.declared.not_run.NotRun.TheVariants.{Memory};
+
 use crate::framing::split_first;
 use crate::not_run::NotRun;
 use crate::question::{Question, read_question};
@@ -10,7 +14,9 @@ use ciborium_ll::Write;
 ///
 /// # Errors
 /// Those of the writer.
-pub fn write_lines<W: Write>(records: &[u8], out: &mut W) -> Result<(), W::Error> {
+pub fn write_lines<W: Write>(records: &[u8], out: &mut W) -> Result<(), W::Error>
+    ensures lent { W.handle out.new ≡ W.handle out.old }
+{
     let mut rest = records;
     for _ in 0..records.len() {
         let Some((record, more)) = first_record(rest) else {
@@ -34,19 +40,33 @@ pub(crate) fn write_questions<W: Write>(
     as_lines: bool,
     records: Option<&[u8]>,
     out: &mut W,
-) -> Result<(), NotRun> {
+) -> Result<(), NotRun>
+    ensures hands { MatchOption records.entry
+        ((result ≡ Err Memory) × (out.new ≡ out.old))
+        (λ r. as_lines ≡ false → Hands W.Write out.old out.new result r.now) }
+    ensures lent { W.handle out.new ≡ W.handle out.old }
+{
     let Some(records) = records else {
         return Err(NotRun::Memory);
     };
-    let written = if as_lines {
-        write_lines(records, out)
-    } else {
-        out.write_all(records)
-    };
-    if written.is_err() || out.flush().is_err() {
+    if write_as(as_lines, records, out).is_err() {
+        return Err(NotRun::Output);
+    }
+    if out.flush().is_err() {
         return Err(NotRun::Output);
     }
     Ok(())
+}
+
+/// Writes the records, as lines if that is asked.
+fn write_as<W: Write>(as_lines: bool, records: &[u8], out: &mut W) -> Result<(), W::Error>
+    ensures sent { as_lines ≡ false → Sent W.Write out.old out.new result records.now }
+    ensures lent { W.handle out.new ≡ W.handle out.old }
+{
+    if as_lines {
+        return write_lines(records, out);
+    }
+    out.write_all(records)
 }
 
 /// The first record with its length, and the rest.
@@ -56,7 +76,9 @@ fn first_record(records: &[u8]) -> Option<(&[u8], &[u8])> {
 }
 
 /// Writes the line of a question.
-fn write_line<W: Write>(question: &Question, record: &[u8], out: &mut W) -> Result<(), W::Error> {
+fn write_line<W: Write>(question: &Question, record: &[u8], out: &mut W) -> Result<(), W::Error>
+    ensures lent { W.handle out.new ≡ W.handle out.old }
+{
     out.write_all(question.kind.as_bytes())?;
     for text in [
         question.protected,
@@ -75,7 +97,9 @@ fn write_line<W: Write>(question: &Question, record: &[u8], out: &mut W) -> Resu
 }
 
 /// Writes a field.
-fn write_field<W: Write>(text: &[u8], out: &mut W) -> Result<(), W::Error> {
+fn write_field<W: Write>(text: &[u8], out: &mut W) -> Result<(), W::Error>
+    ensures lent { W.handle out.new ≡ W.handle out.old }
+{
     if text.is_empty() {
         return out.write_all(b"-");
     }

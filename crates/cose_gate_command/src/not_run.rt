@@ -1,4 +1,7 @@
 //! Why a program ends before its run, or without its output.
+ghost use Rattle.std.specs.Prelude.{◌≡◌};
+ghost use Rattle.cose_gate_command.specs.Asking.{status_of};
+
 use thiserror::Error;
 
 /// Why a program ends before its run, or without its output.
@@ -32,7 +35,9 @@ pub enum NotRun {
 
 impl NotRun {
     /// The status of the program.
-    pub fn status(self) -> u8 {
+    pub fn status(self) -> u8
+        ensures { result ≡ status_of self }
+    {
         match self {
             NotRun::Usage | NotRun::NotHex => 2,
             NotRun::NoFile | NotRun::NoRecords | NotRun::LineNotHex(_) | NotRun::LineNoRecord(_) =>

@@ -1,4 +1,13 @@
 //! The arguments of `cose-ask` and `cose-pass`.
+ghost use Rattle.std.specs.Prelude.{◌≡◌, ℕ, List, ◌∷◌, None, MatchResult, if◌then◌else◌};
+ghost use Rattle.std.specs.Prelude.{map, option_map, option_copied, string_bytes, Some};
+ghost use Rattle.cose_gate_program.specs.Beginning.{aad_of};
+ghost use Rattle.cose_gate_command.specs.Arguments as spec;
+ghost use Rattle.cose_gate_command.specs.Arguments.{ask_view, pass_view};
+ghost use Rattle.cose_gate_command.specs.Asking.{IsNoAad};
+ghost use Rattle.cose_gate_command.specs.Options.{asks_after};
+
+use crate::arguments::{is_option, read_arguments};
 use crate::not_run::NotRun;
 use hex::FromHexError;
 use std::alloc::Global;
@@ -11,7 +20,7 @@ pub struct AskArguments<'a> {
     /// The questions are written as lines of text.
     pub lines: bool,
     /// The external data in hex.
-    pub aad: &'a str,
+    pub aad: Option<&'a str>,
 }
 
 /// The arguments of `cose-pass`.
@@ -22,57 +31,74 @@ pub struct PassArguments<'a> {
     /// The file with the accepted records.
     pub accepted: &'a str,
     /// The external data in hex.
-    pub aad: &'a str,
+    pub aad: Option<&'a str>,
+}
+
+impl<'a> AskArguments<'a> {
+    /// Takes the next word, if it fits.
+    fn take(&mut self, word: &'a str) -> bool
+        ensures { (ws : List (List ℕ)) → asks_after self.old (word.now ∷ ws)
+            ≡ (if result then asks_after self.new ws else None) }
+    {
+        match word {
+            "--strict" => self.strict = true,
+            "--lines" => self.lines = true,
+            word if is_option(word) => return false,
+            word => match self.aad {
+                None => self.aad = Some(word),
+                Some(_) => return false,
+            },
+        }
+        true
+    }
 }
 
 /// The arguments `[--strict] [--lines] [AADHEX]`; `None` if they are others. Options may be
 /// before and after AADHEX.
-pub fn ask_arguments(all: &[String]) -> Option<AskArguments<'_>> {
-    let mut strict = false;
-    let mut lines = false;
-    let mut aad = None;
+pub fn ask_arguments(all: &[String]) -> Option<AskArguments<'_>>
+    ensures { option_map ask_view result ≡ spec.ask_arguments (map string_bytes all.now) }
+{
+    let mut asked = AskArguments {
+        strict: false,
+        lines: false,
+        aad: None,
+    };
     for word in all {
-        match word.as_str() {
-            "--strict" => strict = true,
-            "--lines" => lines = true,
-            word if word.starts_with('-') || aad.is_some() => return None,
-            word => aad = Some(word),
+        if !asked.take(word.as_str()) {
+            return None;
         }
     }
-    Some(AskArguments {
-        strict,
-        lines,
-        aad: aad.unwrap_or(""),
-    })
+    Some(asked)
 }
 
 /// The arguments `[--strict] ACCEPTED [AADHEX]`; `None` if they are others. Options may be
 /// anywhere.
-pub fn pass_arguments(all: &[String]) -> Option<PassArguments<'_>> {
-    let mut strict = false;
-    let mut accepted = None;
-    let mut aad = None;
-    for word in all {
-        match word.as_str() {
-            "--strict" => strict = true,
-            word if word.starts_with('-') || aad.is_some() => return None,
-            word if accepted.is_some() => aad = Some(word),
-            word => accepted = Some(word),
-        }
+pub fn pass_arguments(all: &[String]) -> Option<PassArguments<'_>>
+    ensures { option_map pass_view result ≡ spec.pass_arguments (map string_bytes all.now) }
+{
+    let asked = read_arguments(all)?;
+    if asked.verbose {
+        return None;
     }
     Some(PassArguments {
-        strict,
-        accepted: accepted?,
-        aad: aad.unwrap_or(""),
+        strict: asked.strict,
+        accepted: asked.keys,
+        aad: asked.aad,
     })
 }
 
-/// The external data that AADHEX encodes.
+/// The external data that AADHEX encodes; none without it.
 ///
 /// # Errors
 /// `NotHex` if it is not hex, and `Memory`.
-pub fn read_aad(alloc: Global, aad: &str) -> Result<Vec<u8>, NotRun> {
-    match hex::decode(alloc, aad) {
+pub(crate) fn read_aad(alloc: Global, aad: Option<&str>) -> Result<Vec<u8>, NotRun>
+    ensures { MatchResult result (λ d. aad_of (option_copied aad.entry) ≡ Some d.items)
+        (λ why. IsNoAad (option_copied aad.entry) why) }
+{
+    let Some(text) = aad else {
+        return Ok(Vec::new(alloc));
+    };
+    match hex::decode(alloc, text) {
         Ok(bytes) => Ok(bytes),
         Err(FromHexError::OutOfMemory) => Err(NotRun::Memory),
         Err(_) => Err(NotRun::NotHex),

@@ -1,7 +1,13 @@
 //! The run of `cose-pass`.
+ghost use Rattle.std.specs.Prelude.{◌≡◌, map, option_map, string_bytes};
+ghost use Rattle.cose_gate_core.specs.Terms.{limits_of};
+ghost use Rattle.cose_gate_command.specs.Arguments as spec;
+ghost use Rattle.cose_gate_command.specs.Passing.{Passed, Passes};
+ghost use Rattle.cose_gate_program.specs.Program.{devices_of};
+
 use crate::accepted::read_accepted;
 use crate::not_run::NotRun;
-use crate::options::{PassArguments, read_aad};
+use crate::options::{pass_arguments, read_aad};
 use ciborium_ll::{Read, Write};
 use cose_gate_program::{Limits, Terms, run_judged};
 use cose_gate_records::Accepted;
@@ -12,31 +18,68 @@ use std::alloc::Global;
 /// lines to `err`. The status is that of the run.
 ///
 /// # Errors
-/// `NoFile`, `NotHex`, `LineNotHex`, `LineNoRecord`, `NoRecords` and `Memory`, before any input is
-/// read.
+/// `Usage`, `NoFile`, `NotHex`, `LineNotHex`, `LineNoRecord`, `NoRecords` and `Memory`, before any
+/// input is read.
 pub fn pass<R: Read, W: Write, E: Write>(
     alloc: Global,
-    arguments: PassArguments<'_>,
+    words: &[String],
     accepted: Option<Vec<u8>>,
     input: &mut R,
     out: &mut W,
     err: &mut E,
-) -> Result<u8, NotRun> {
+) -> Result<u8, NotRun>
+    ensures ran { Passes E.Write (spec.pass_arguments (map string_bytes words.now))
+        (option_map (λ bytes. bytes.items) accepted)
+        (devices_of R.Read W.Write input.old out.old)
+        (devices_of R.Read W.Write input.new out.new) err.old err.new result }
+    ensures kept { R.handle input.new ≡ R.handle input.old }
+    ensures lent { W.handle out.new ≡ W.handle out.old }
+{
+    let Some(arguments) = pass_arguments(words) else {
+        return Err(NotRun::Usage);
+    };
     let Some(accepted) = accepted else {
         return Err(NotRun::NoFile);
     };
     let aad = read_aad(alloc, arguments.aad)?;
     let records = read_accepted(alloc, accepted)?;
-    match Accepted::new(alloc, records.as_slice()) {
-        Ok(Some(judge)) => {
-            let mut judge = judge;
-            let terms = Terms {
-                limits: Limits::default(),
-                strict: arguments.strict,
-            };
-            Ok(run_judged(alloc, terms, aad.as_slice(), input, out, err, &mut judge))
-        }
-        Ok(None) => Err(NotRun::NoRecords),
-        Err(_) => Err(NotRun::Memory),
-    }
+    let terms = Terms {
+        limits: Limits::default(),
+        strict: arguments.strict,
+    };
+    pass_by(
+        alloc,
+        terms,
+        records.as_slice(),
+        aad.as_slice(),
+        input,
+        out,
+        err,
+    )
+}
+
+/// Passes the messages whose questions have these records, by these terms.
+fn pass_by<R: Read, W: Write, E: Write>(
+    alloc: Global,
+    terms: Terms,
+    records: &[u8],
+    aad: &[u8],
+    input: &mut R,
+    out: &mut W,
+    err: &mut E,
+) -> Result<u8, NotRun>
+    ensures ran { Passed E.Write (limits_of terms) records.now aad.now
+        (devices_of R.Read W.Write input.old out.old)
+        (devices_of R.Read W.Write input.new out.new) err.old err.new result }
+    ensures kept { R.handle input.new ≡ R.handle input.old }
+    ensures lent { W.handle out.new ≡ W.handle out.old }
+{
+    let Ok(judge) = Accepted::new(alloc, records) else {
+        return Err(NotRun::Memory);
+    };
+    let Some(judge) = judge else {
+        return Err(NotRun::NoRecords);
+    };
+    let mut judge = judge;
+    Ok(run_judged(alloc, terms, aad, input, out, err, &mut judge))
 }

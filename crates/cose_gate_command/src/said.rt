@@ -1,55 +1,49 @@
 //! The lines of the program, and what is said more.
 ghost use Rattle.std.specs.Prelude.{◌≡◌, ◌++◌, ◌∷◌, [], true};
-ghost use Rattle.cose_gate_command.specs.Saying.{Alone, Alone-prop, Saying};
+ghost use Rattle.cose_gate_command.specs.QuietLines.{IfQuiet, IfQuiet-prop, QuietLines};
 
 use crate::explained::Note;
-use crate::key_file::{KeyFile, say_not_begun};
 use crate::more::{Text, say_refusal, say_stop};
 use ciborium_ll::Write;
 use ciborium_ll::log::Log;
 use cose_gate_core::{Entry, GateFault, Verdict};
-use cose_gate_program::{InputFault, NotBegun, Notice, Teller, write_logged};
-use cose_reasons::Page;
-use std::alloc::Global;
+use cose_gate_program::{InputFault, Notice, Teller, hand_on, write_logged};
 use std::cell::{Cell, RefCell};
 
 /// What is said more comes from these.
 #[derive(Clone, Copy)]
-pub(crate) struct Sources<'n, 'f, 'd> {
-    pub(crate) alloc: Global,
+pub(crate) struct Sources<'n> {
     /// Why the judge said no last.
     pub(crate) note: &'n RefCell<Note>,
     /// How many bytes of the input were taken.
     pub(crate) taken: &'n Cell<usize>,
-    pub(crate) file: KeyFile<'f>,
-    pub(crate) aad: Option<&'d str>,
 }
 
 /// The lines of the program, and if it is verbose after each what is said more.
 #[derive(Drop)]
-pub(crate) struct Said<'o, 'n, 'f, 'd, W: Write> {
+pub(crate) struct Said<'o, 'n, W: Write> {
     out: &'o mut W,
     verbose: bool,
     /// It is lent, since what it holds may be none: else no clause could say what becomes of `out`.
-    sources: &'o Sources<'n, 'f, 'd>,
+    sources: &'o Sources<'n>,
     /// How many items were done, and where the next one begins.
     done: usize,
     offset: usize,
     /// What was told, and what the writer was at first. It is in contracts alone.
     told: &'o mut Log<Notice>,
     was: &'o Log<W>,
-    ghost is: { Alone W.Write verbose was.now out.now told.now } by { Alone-prop W.Write _ _ _ _ },
+    ghost is: { IfQuiet W.Write verbose was.now out.now told.now } by { IfQuiet-prop W.Write _ _ _ _ },
 }
 
-impl<'o, 'n, 'f, 'd, W: Write> Said<'o, 'n, 'f, 'd, W> {
+impl<'o, 'n, W: Write> Said<'o, 'n, W> {
     /// Of this writer, which is the one in the first log; the second is for what is told.
     pub(crate) fn new(
         out: &'o mut W,
         verbose: bool,
-        sources: &'o Sources<'n, 'f, 'd>,
+        sources: &'o Sources<'n>,
         was: &'o Log<W>,
         told: &'o mut Log<Notice>,
-    ) -> Said<'o, 'n, 'f, 'd, W>
+    ) -> Said<'o, 'n, W>
         requires { was.now.items ≡ out.old ∷ [] }
         ensures was { result.was.now.items ≡ out.old ∷ [] }
         ensures told { result.told.now.items ≡ [] }
@@ -102,26 +96,6 @@ impl<'o, 'n, 'f, 'd, W: Write> Said<'o, 'n, 'f, 'd, W> {
         let _ = self.out.flush();
     }
 
-    /// Says more of a run that doesn't begin.
-    fn explain_not_begun(&mut self, why: NotBegun)
-        requires { self.old.verbose ≡ true }
-        ensures verbose { self.new.verbose ≡ self.old.verbose }
-        ensures was { self.new.was ≡ self.old.was }
-        ensures told { self.new.told.now ≡ self.old.told.now }
-        ensures same { self.new.told.ghost_name ≡ self.old.told.ghost_name }
-        ensures kept { self.new.out.ghost_name ≡ self.old.out.ghost_name }
-    {
-        let Sources {
-            alloc,
-            file,
-            aad,
-            ..
-        } = *self.sources;
-        let mut text = Text { out: self.out };
-        say_not_begun(alloc, why, file, aad, &mut Page::new(&mut text));
-        let _ = self.out.flush();
-    }
-
     fn explain(&mut self, notice: &Notice)
         requires { self.old.verbose ≡ true }
         ensures verbose { self.new.verbose ≡ self.old.verbose }
@@ -132,15 +106,14 @@ impl<'o, 'n, 'f, 'd, W: Write> Said<'o, 'n, 'f, 'd, W> {
     {
         match notice {
             Notice::Item(entry) => self.explain_item(entry),
-            Notice::Counts(_) => {}
             Notice::Stopped(fault) => self.explain_stop(fault),
-            Notice::NotBegun(why) => self.explain_not_begun(*why),
+            Notice::Counts(_) | Notice::NotBegun(_) => {}
         }
     }
 }
 
-impl<'o, 'n, 'f, 'd, W: Write> Teller for Said<'o, 'n, 'f, 'd, W> {
-    ghost State = { Saying W };
+impl<'o, 'n, W: Write> Teller for Said<'o, 'n, W> {
+    ghost State = { QuietLines W };
 
     ghost state = { λ l. record {
       verbose = l.verbose;
@@ -156,5 +129,9 @@ impl<'o, 'n, 'f, 'd, W: Write> Teller for Said<'o, 'n, 'f, 'd, W> {
         if self.verbose {
             self.explain(notice);
         }
+    }
+
+    fn rest(&mut self) {
+        hand_on(self.out);
     }
 }

@@ -16,7 +16,7 @@ use Rattle.cose_gate_core.proofs.Placed.{AllSteps, run_told}
 pub plain_admits : (l : Bounds) (n k : ℕ) → l.nesting ≤ n → l.layers ≤ k → Admits l (plain n k)
 plain_admits l n k a b = record { nesting = a; layers = b; written = λ c m e. refl }
 
--- and those that exclude what is spelled otherwise
+-- and so do strict limits that are as wide or wider
 pub strict_admits : (l : Bounds) (n k : ℕ) → l.nesting ≤ n → l.layers ≤ k → Admits l (only_exact n k)
 strict_admits l n k a b = record {
   nesting = a;

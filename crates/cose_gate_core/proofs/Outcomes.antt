@@ -25,13 +25,13 @@ use Rattle.cose_gate_core.specs.Questions.{MessageFields, questions}
 use Rattle.cose_gate_core.specs.Asked.{first_no, folded_over, IsFront}
 use Rattle.cose_gate_core.specs.Findings.{judged}
 use Rattle.cose_gate_core.specs.Run.{Step, Steps, judged_by, has_passed, passes, asked_of, written_of, questions_of, output_of, entries_of, passed_count, refused_count, Course}
-use Rattle.cose_gate_core.specs.Outcome.{Rules, Sight, Made, IsFaultOf, IsReadFault, StandsIn, TakesOne, IsNoReaderFault, Answers, IfTooLong}
+use Rattle.cose_gate_core.specs.Outcome.{Rules, GateState, Made, Reached, IsFaultOf, IsReadFault, StandsIn, TakesOne, IsNoReaderFault, Answers, IfTooLong}
 use Rattle.cose_gate_core.specs.Passing.{ItemRules, ItemSight, WentThrough, Half, HalfWritten, ItemFails, at_end, stopped_by}
 use Rattle.coset_labels.specs.Limits.{nesting_of}
 use Rattle.cose_gate_core.specs.Terms.{IsTaken}
 use Rattle.cose_gate_core.specs.declared.terms.Terms.{Terms}
 use Rattle.cose_gate_core.proofs.Nothing.{empty_damage}
-use Rattle.cose_gate_core.proofs.Reach.{reads_some, Reached, further, step_at, entry_at, told_then, questions_then, output_then, entries_then, verdict_passes, count_then, folded_append, sequence_more}
+use Rattle.cose_gate_core.proofs.Reach.{reads_some, further, step_at, entry_at, told_then, questions_then, output_then, entries_then, verdict_passes, count_then, folded_append, sequence_more}
 
 -- a list is a beginning of itself, and of itself and more
 pub whole_front : {A : Type 0} (xs : List A) → IsFront xs xs
@@ -48,11 +48,11 @@ pub front_within : {A : Type 0} (xs part ys all : List A) → all ≡ xs ++ ys �
 front_within xs part ys all e f = record { more = f.more; whole = e ∙ ap (λ z. xs ++ z) f.whole ∙ sym (append_assoc xs part f.more) }
 
 -- the bytes that are to come, and none if they are not known
-abbrev rest_of : Option (List ℕ) → List ℕ
+abbrev pub rest_of : Option (List ℕ) → List ℕ
 rest_of None = []
 rest_of (Some b) = b
 
-rest_known : (l : Option (List ℕ)) → IfKnown l (λ b. b ≡ rest_of l)
+pub rest_known : (l : Option (List ℕ)) → IfKnown l (λ b. b ≡ rest_of l)
 rest_known None = tt
 rest_known (Some b) = refl
 
@@ -62,7 +62,7 @@ nothing_behind None l' m b c k = tt
 nothing_behind (Some a) None m b c k = absurd c
 nothing_behind (Some a) (Some r) m b c k = k.1
 
--- the first of two facts
+-- of two facts about known bytes the first: there are none
 none_first : (Q : Type 0) (l : Option (List ℕ)) → IfKnown l (λ b. (b ≡ []) × Q) → IfKnown l (λ b. b ≡ [])
 none_first Q None k = tt
 none_first Q (Some b) k = k.0
@@ -83,7 +83,7 @@ record Partly (l l' : Option (List ℕ)) (p p' : ℕ) (P : Type 0) : Type 0 wher
   pub behind : P → IfKnown l (λ b. l' ≡ Some rest)
 
 -- what is left is told if it was told what was to come
-rest_told : (l l' : Option (List ℕ)) (b : List ℕ) → Consumes l l' b → IfKnown l (λ a. l' ≡ Some (rest_of l'))
+pub rest_told : (l l' : Option (List ℕ)) (b : List ℕ) → Consumes l l' b → IfKnown l (λ a. l' ≡ Some (rest_of l'))
 rest_told None l' b c = tt
 rest_told (Some a) None b c = absurd c
 rest_told (Some a) (Some r) b c = refl
@@ -160,17 +160,17 @@ nothing_read k l₁ l₂ p₁ p₂ v e t = go l₂ (subst (λ (l : Option (List 
 abbrev item_rules_of : {T S : Type 0} → Rules T S → ItemRules T
 item_rules_of rules = record { limits = rules.limits; decided = rules.decided; allows = rules.allows; aad = rules.aad }
 
-abbrev item_sight_of : {T S : Type 0} → Sight T S → ItemSight T
+abbrev item_sight_of : {T S : Type 0} → GateState T S → ItemSight T
 item_sight_of sight = record { told = sight.told; written = sight.written }
 
 module _ {T S : Type 0} (rules : Rules T S) where
-  written_then : (old new newer : Sight T S) (ss : List Step) (s : Step) → Appends old.written new.written (output_of rules.allows rules.aad ss)
+  written_then : (old new newer : GateState T S) (ss : List Step) (s : Step) → Appends old.written new.written (output_of rules.allows rules.aad ss)
       → Appends new.written newer.written (written_of rules.allows rules.aad s.finding) → Appends old.written newer.written (output_of rules.allows rules.aad (ss ++ s ∷ []))
   written_then old new newer ss s a b = subst (λ (z : List ℕ). Appends old.written newer.written z) (sym (output_then rules ss s))
       (Appends-trans old.written new.written newer.written (output_of rules.allows rules.aad ss) (written_of rules.allows rules.aad s.finding) a b)
 
-  -- what was made stays made
-  still : (old new newer : Sight T S) (ss : List Step) → newer.told ≡ new.told → newer.state ≡ new.state → newer.written ≡ new.written → Made rules old new ss → Made rules old newer ss
+  -- what was made of the steps holds also later, if nothing was told, noted or written since
+  still : (old new newer : GateState T S) (ss : List Step) → newer.told ≡ new.told → newer.state ≡ new.state → newer.written ≡ new.written → Made rules old new ss → Made rules old newer ss
   still old new newer ss told state writes m = record {
     told = told ∙ m.told;
     state = state ∙ m.state;
@@ -178,7 +178,7 @@ module _ {T S : Type 0} (rules : Rules T S) where
   }
 
   -- the item went through, and its entry was noted
-  pub reached_step : (old new newer : Sight T S) (passed refused passed' refused' : ℕ) → Reached rules old new passed refused
+  pub reached_step : (old new newer : GateState T S) (passed refused passed' refused' : ℕ) → Reached rules old new passed refused
       → (v : Tree) (t : Moves new.left newer.left new.offset newer.offset (λ (b : List ℕ). Reads b rules.limits.nesting v)) → (verdict : Verdict)
       → WentThrough (item_rules_of rules) t.bytes v (item_sight_of new) (item_sight_of newer) verdict
       → (e : Entry) → e ≡ entry_at (passed + refused + 1) new.offset verdict → newer.state ≡ rules.folded new.state e
@@ -206,14 +206,14 @@ module _ {T S : Type 0} (rules : Rules T S) where
       }
 
   -- the bytes that were there, and what is left of them
-  record Left (old new : Sight T S) (steps : List Step) (more : List ℕ) : Type 0 where
+  pub record Left (old new : GateState T S) (steps : List Step) (more : List ℕ) : Type 0 where
     pub input : List ℕ
     pub is : IfKnown old.left (λ b. b ≡ input)
     pub behind : IfKnown new.left (λ b. b ≡ more)
     pub course : Course rules.limits rules.allows rules.aad old.offset input steps more
     pub stop : new.offset + length more ≡ old.offset + length input
 
-  left_after : (old new : Sight T S) (steps : List Step) → Moves old.left new.left old.offset new.offset (λ (b : List ℕ). SequenceWithin rules.limits.nesting old.offset b (map (λ s. s.item) steps) [])
+  pub left_after : (old new : GateState T S) (steps : List Step) → Moves old.left new.left old.offset new.offset (λ (b : List ℕ). SequenceWithin rules.limits.nesting old.offset b (map (λ s. s.item) steps) [])
       → Steps rules.limits rules.allows rules.aad 1 steps → (more : List ℕ) → IfKnown new.left (λ r. r ≡ more) → Left old new steps more
   left_after old new steps t s more m =
       let g = t.grown in
@@ -231,7 +231,7 @@ module _ {T S : Type 0} (rules : Rules T S) where
   judged_step n o x v m = step_at o x v (judged m) (entry_at n o (judged_by (first_no rules.allows (questions m rules.aad))))
 
   -- Ok: no byte is left
-  pub answer_whole : {E : Type 0} (ends : E → Bool) (old new newer : Sight T S) (counts : Counts) → Reached rules old new counts.passed counts.refused
+  pub answer_whole : {E : Type 0} (ends : E → Bool) (old new newer : GateState T S) (counts : Counts) → Reached rules old new counts.passed counts.refused
       → newer.told ≡ new.told → newer.state ≡ new.state → newer.written ≡ new.written → IfKnown new.left (λ b. (b ≡ []) × (newer.left ≡ Some [])) × (newer.offset ≡ new.offset) → Answers ends rules old newer (Ok counts)
   answer_whole ends old new newer counts r told state writes (none, stays) =
       let w = left_after old new r.done r.taken r.steps [] (none_first (newer.left ≡ Some []) new.left none) in
@@ -250,7 +250,7 @@ module _ {T S : Type 0} (rules : Rules T S) where
       }
 
   -- the gate is in what was to come after the steps
-  stands_in : (old new newer : Sight T S) (P : Type 0) (input b : List ℕ) → Consumes old.left new.left b → (k : Partly new.left newer.left new.offset newer.offset P)
+  stands_in : (old new newer : GateState T S) (P : Type 0) (input b : List ℕ) → Consumes old.left new.left b → (k : Partly new.left newer.left new.offset newer.offset P)
       → new.offset + length k.more ≡ old.offset + length input → StandsIn old newer input k.more P
   stands_in old new newer P input b c k s = record {
     taken = k.taken;
@@ -261,14 +261,14 @@ module _ {T S : Type 0} (rules : Rules T S) where
   }
 
   -- what was taken of what was to come after the steps holds one item at most
-  takes_one : (old new newer : Sight T S) (input : List ℕ) (Q : List ℕ → Type 0) (t : Moves new.left newer.left new.offset newer.offset Q) → HoldsOne t.bytes
+  takes_one : (old new newer : GateState T S) (input : List ℕ) (Q : List ℕ → Type 0) (t : Moves new.left newer.left new.offset newer.offset Q) → HoldsOne t.bytes
       → new.offset + length (t.bytes ++ rest_of newer.left) ≡ old.offset + length input → TakesOne old newer input (t.bytes ++ rest_of newer.left)
   takes_one old new newer input Q t one s taken rest is place =
       let l : length taken ≡ length t.bytes = omega (arith, s, place, t.grown, ap length is, length-append taken rest, length-append t.bytes (rest_of newer.left)) in
       subst HoldsOne (sym (same_fronts taken t.bytes rest (rest_of newer.left) l (sym is)).0) one
 
   -- Memory, if all steps so far are made
-  memory_between : {E : Type 0} (ends : E → Bool) (old new newer : Sight T S) (passed refused : ℕ) → Reached rules old new passed refused
+  memory_between : {E : Type 0} (ends : E → Bool) (old new newer : GateState T S) (passed refused : ℕ) → Reached rules old new passed refused
       → newer.told ≡ new.told → newer.state ≡ new.state → newer.written ≡ new.written → (new.left ≡ Some [] → ⊥)
       → (Q : List ℕ → Type 0) → ((b : List ℕ) → Q b → HoldsOne b) → Moves new.left newer.left new.offset newer.offset Q → Answers ends rules old newer (Err Memory)
   unfolding moved
@@ -301,7 +301,7 @@ module _ {T S : Type 0} (rules : Rules T S) where
       }
 
   -- the fault of the bytes, or Memory of the reader
-  pub answer_read : {E : Type 0} (ends : E → Bool) (old new newer : Sight T S) (passed refused : ℕ) → Reached rules old new passed refused
+  pub answer_read : {E : Type 0} (ends : E → Bool) (old new newer : GateState T S) (passed refused : ℕ) → Reached rules old new passed refused
       → newer.told ≡ new.told → newer.state ≡ new.state → newer.written ≡ new.written → (f : GateFault E) → IsReadFault ends rules.limits.nesting new.left newer.left new.offset newer.offset f
       → (new.left ≡ Some [] → f ≢ Memory) → Answers ends rules old newer (Err f)
   answer_read ends old new newer passed refused r told state writes (Decode e) d some =
@@ -326,7 +326,7 @@ module _ {T S : Type 0} (rules : Rules T S) where
   answer_read ends old new newer passed refused r told state writes Memory d some = memory_between ends old new newer passed refused r told state writes (λ none. some none refl) HoldsOne (λ b one. one) d
 
   -- Memory, if the judge was told a beginning of the questions about one more message
-  memory_asking : {E : Type 0} (ends : E → Bool) (old new newer : Sight T S) (passed refused : ℕ) → Reached rules old new passed refused
+  memory_asking : {E : Type 0} (ends : E → Bool) (old new newer : GateState T S) (passed refused : ℕ) → Reached rules old new passed refused
       → (v : Tree) (t : Moves new.left newer.left new.offset newer.offset (λ (b : List ℕ). Reads b rules.limits.nesting v)) → Half (item_rules_of rules) t.bytes v (item_sight_of new) (item_sight_of newer)
       → newer.state ≡ new.state → newer.written ≡ new.written → Answers ends rules old newer (Err Memory)
   unfolding judged_step step_at
@@ -361,7 +361,7 @@ module _ {T S : Type 0} (rules : Rules T S) where
       }
 
   -- Write, in the encoding of one more message
-  write_within : {E : Type 0} (ends : E → Bool) (old new newer : Sight T S) (passed refused : ℕ) → Reached rules old new passed refused
+  write_within : {E : Type 0} (ends : E → Bool) (old new newer : GateState T S) (passed refused : ℕ) → Reached rules old new passed refused
       → (v : Tree) (t : Moves new.left newer.left new.offset newer.offset (λ (b : List ℕ). Reads b rules.limits.nesting v)) → HalfWritten (item_rules_of rules) t.bytes v (item_sight_of new) (item_sight_of newer)
       → newer.state ≡ new.state → Answers ends rules old newer (Err Write)
   unfolding judged_step step_at
@@ -389,7 +389,7 @@ module _ {T S : Type 0} (rules : Rules T S) where
       }
 
   -- the item failed
-  pub answer_item : {E : Type 0} (ends : E → Bool) (old new newer : Sight T S) (passed refused : ℕ) → Reached rules old new passed refused
+  pub answer_item : {E : Type 0} (ends : E → Bool) (old new newer : GateState T S) (passed refused : ℕ) → Reached rules old new passed refused
       → (v : Tree) (t : Moves new.left newer.left new.offset newer.offset (λ (b : List ℕ). Reads b rules.limits.nesting v)) → (f : ItemFault)
       → ItemFails (item_rules_of rules) t.bytes v (item_sight_of new) (item_sight_of newer) f → newer.state ≡ new.state → Answers ends rules old newer (Err (stopped_by f))
   answer_item ends old new newer passed refused r v t fault.Write h state = write_within ends old new newer passed refused r v t h state
@@ -399,7 +399,7 @@ module _ {T S : Type 0} (rules : Rules T S) where
   answer_item ends old new newer passed refused r v t fault.Memory (writes, inr half) state = memory_asking ends old new newer passed refused r v t half state writes
 
   -- Memory, if the item went through and the report refused its entry
-  pub answer_noting : {E : Type 0} (ends : E → Bool) (old new newer : Sight T S) (passed refused : ℕ) → Reached rules old new passed refused
+  pub answer_noting : {E : Type 0} (ends : E → Bool) (old new newer : GateState T S) (passed refused : ℕ) → Reached rules old new passed refused
       → (v : Tree) (t : Moves new.left newer.left new.offset newer.offset (λ (b : List ℕ). Reads b rules.limits.nesting v)) → (verdict : Verdict)
       → WentThrough (item_rules_of rules) t.bytes v (item_sight_of new) (item_sight_of newer) verdict → newer.state ≡ new.state → Answers ends rules old newer (Err Memory)
   unfolding step_at
@@ -447,7 +447,7 @@ nothing_fails ends k p p' de.RecursionLimitExceeded d m small = (let z : deep �
 nothing_fails ends k p p' de.Memory d m small = absurd m
 nothing_fails ends k p p' de.TooLong d m small = absurd (let l : 2 ^ 64 ≤ p + 0 + 4096 = d in omega arith)
 
--- what is told of an end
+-- what `IfEnd` says, if the fault is an end
 if_end : {E : Type 0} (ends : E → Bool) (P : Type 0) (e : Error E) → at_end ends e ≡ true → IfEnd ends P e → P
 if_end ends P (de.Io x) t f = f t
 if_end ends P (de.Syntax q) t f = cc
@@ -474,7 +474,7 @@ unfolding entry_at
 same_entry n m o p v a b = rw (a, b) refl
 
 -- if no byte is left at the call, none was taken
-pub nothing_taken : {T S : Type 0} (rules : Rules T S) (old new : Sight T S) (n : ℕ) {m : ℕ} → Reached rules old new n m → old.left ≡ Some [] → (new.left ≡ Some []) × (new.offset ≡ old.offset)
+pub nothing_taken : {T S : Type 0} (rules : Rules T S) (old new : GateState T S) (n : ℕ) {m : ℕ} → Reached rules old new n m → old.left ≡ Some [] → (new.left ≡ Some []) × (new.offset ≡ old.offset)
 nothing_taken rules old new n r e = go new.left r.taken.bytes (subst (λ (l : Option (List ℕ)). Consumes l new.left r.taken.bytes) e r.taken.taken) r.taken.grown
   where
     go : (l : Option (List ℕ)) (b : List ℕ) → Consumes (Some []) l b → new.offset ≡ old.offset + length b → (l ≡ Some []) × (new.offset ≡ old.offset)

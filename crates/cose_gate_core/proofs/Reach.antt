@@ -17,7 +17,7 @@ use Rattle.cose_gate_core.specs.Questions.{Question, questions}
 use Rattle.cose_gate_core.specs.Asked.{first_no, folded_over}
 use Rattle.cose_gate_core.specs.Findings.{Finding, judged, barred, excluded, not_tagged, encrypted, other_tag, shape, detached, no_signature, Bounds, Finds}
 use Rattle.cose_gate_core.specs.Run.{Step, Steps, IsVerdict, judged_by, has_passed, passes, asked_of, written_of, questions_of, output_of, entries_of, passed_count, refused_count}
-use Rattle.cose_gate_core.specs.Outcome.{Rules, Sight, Made}
+use Rattle.cose_gate_core.specs.Outcome.{Rules, GateState, Made, Reached}
 
 -- lists
 pub folded_append : {S X : Type 0} (step : S → X → S) (s : S) (xs ys : List X) → folded_over step s (xs ++ ys) ≡ folded_over step (folded_over step s xs) ys
@@ -93,16 +93,7 @@ module _ (limits : Bounds) (allows : Question → Bool) (aad : List ℕ) where
   steps_then n [] s a f e o v = (f, omega arith, o, v, tt)
   steps_then n (x ∷ xs) s a f e o v = (a.0, a.1, a.2, a.3, steps_then (n + 1) xs s a.4 f (omega arith) o v)
 
--- some steps were made; they took the bytes of their items
-pub record Reached {T S : Type 0} (rules : Rules T S) (old new : Sight T S) (passed refused : ℕ) : Type 0 where
-  pub done : List Step
-  pub taken : Moves old.left new.left old.offset new.offset (λ (b : List ℕ). SequenceWithin rules.limits.nesting old.offset b (map (λ s. s.item) done) [])
-  pub steps : Steps rules.limits rules.allows rules.aad 1 done
-  pub made : Made rules old new done
-  pub passed_is : passed ≡ passed_count rules.allows rules.aad done
-  pub refused_is : refused ≡ refused_count rules.allows rules.aad done
-
-pub reached_start : {T S : Type 0} (rules : Rules T S) (seen : Sight T S) → Reached rules seen seen 0 0
+pub reached_start : {T S : Type 0} (rules : Rules T S) (seen : GateState T S) → Reached rules seen seen 0 0
 reached_start rules seen = record {
   done = [];
   taken = record { bytes = []; has = refl; taken = Consumes-nil seen.left; grown = omega arith };
@@ -141,11 +132,11 @@ module _ {T S : Type 0} (rules : Rules T S) where
       ∙ ap (folded_over rules.decided old) (sym (questions_then ss s))
 
   -- how far the steps so far and one more item have come
-  pub record Further (old newer : Sight T S) (done : List Step) (s : Step) : Type 0 where
+  pub record Further (old newer : GateState T S) (done : List Step) (s : Step) : Type 0 where
     pub taken : Moves old.left newer.left old.offset newer.offset (λ (b : List ℕ). SequenceWithin rules.limits.nesting old.offset b (map (λ s. s.item) (done ++ s ∷ [])) [])
     pub steps : Steps rules.limits rules.allows rules.aad 1 (done ++ s ∷ [])
 
-  pub further : (old new newer : Sight T S) (passed refused : ℕ) (r : Reached rules old new passed refused)
+  pub further : (old new newer : GateState T S) (passed refused : ℕ) (r : Reached rules old new passed refused)
       (v : Tree) (t : Moves new.left newer.left new.offset newer.offset (λ (b : List ℕ). Reads b rules.limits.nesting v)) (f : Finding) (verdict : Verdict) → Finds rules.limits t.bytes v f → IsVerdict rules.limits rules.allows rules.aad v f verdict
       → Further old newer r.done (step_at new.offset t.bytes v f (entry_at (passed + refused + 1) new.offset verdict))
   unfolding step_at entry_at item_at

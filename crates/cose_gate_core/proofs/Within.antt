@@ -59,7 +59,7 @@ module _ (limits : Bounds) (allows : Question → Bool) (aad : List ℕ) where
       sum_by-cons (λ x. cond (p x.finding) 1 0) c cs ∙ ap (λ f. cond (p f) 1 0 + count_by (λ s. p s.finding) cs) t.0.finding
       ∙ ap (λ n. cond (p s.finding) 1 0 + n) (twins_count p cs ss t.1) ∙ sym (sum_by-cons (λ x. cond (p x.finding) 1 0) s ss)
 
-  -- twins of steps and then more
+  -- the steps `ss` are twins of `cs`, and then twins of `ds`
   pub record Split (cs : List Step) (ds : List Step) (ss : List Step) : Type 0 where
     pub front : List Step
     pub behind : List Step

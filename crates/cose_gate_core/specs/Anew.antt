@@ -41,7 +41,7 @@ SameVerdicts [] (f ∷ fs) = ⊥
 SameVerdicts (e ∷ es) [] = ⊥
 SameVerdicts (e ∷ es) (f ∷ fs) = SameVerdict e.verdict f.verdict × SameVerdicts es fs
 
--- these entries say the same as the first of those
+-- the entries `es` say the same as the first entries of `fs`
 pub record EntriesBegin (es fs : List Entry) : Type 0 where
   pub front : List Entry
   pub more : List Entry

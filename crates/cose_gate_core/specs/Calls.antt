@@ -7,7 +7,7 @@ use Rattle.ciborium_ll.specs.declared.write.Write.{Ghosts as Writes}
 use Rattle.coset_labels.specs.Limits.{nesting_of, layers_of}
 use Rattle.coset_labels.specs.declared.limits.Limits.{Limits}
 use Rattle.cose_gate_core.specs.Findings.{Bounds, plain, only_exact}
-use Rattle.cose_gate_core.specs.Outcome.{Rules, Sight}
+use Rattle.cose_gate_core.specs.Outcome.{Rules, GateState}
 use Rattle.cose_gate_core.specs.Passing.{ItemRules, ItemSight}
 use Rattle.cose_gate_core.specs.declared.report.Report.{Ghosts as Reports}
 use Rattle.cose_gate_core.specs.declared.judge.Judge.{Ghosts as Judges}
@@ -34,7 +34,7 @@ rules_by limits p j judge aad = record {
 -- what is seen of the decoder, the writer, the report and the judge
 abbrev pub sight_of : {R E W F P J : Type 0}
     (r : Reads R E) (w : Writes W F) (p : Reports P) (j : Judges J)
-    → Decoder R → W → P → J → Sight j.Told p.State
+    → Decoder R → W → P → J → GateState j.Told p.State
 sight_of r w p j decoder out report judge = record {
   told = j.told judge;
   state = p.state report;

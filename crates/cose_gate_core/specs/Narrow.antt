@@ -34,7 +34,7 @@ ShortString k P b body =
 abbrev pub IsShortTag : ℕ → Tree → Type 0
 IsShortTag n t = (c : List ℕ) → t ≡ bytes c → (n ≡ 2) ⊎ (n ≡ 3) → (length c ≢ 5) × (length c ≢ 6)
 
--- `b` is the one item `t`, so
+-- `b` is the item `t`, with none of what may be written longer than it came
 abbrev mutual
   pub SpellsNarrow : List ℕ → Tree → Type 0
   SpellsNarrow b (integer i) = Title b (int_head i)
@@ -61,7 +61,7 @@ abbrev mutual
 abbrev pub IsNarrow : List ℕ → Type 0
 IsNarrow b = (t : Tree) × SpellsNarrow b t
 
--- each item that passes is one of these
+-- each item that passes is narrow
 abbrev pub PassedAreNarrow : (Question → Bool) → List ℕ → List Step → Type 0
 PassedAreNarrow allows aad [] = Unit {0}
 PassedAreNarrow allows aad (s ∷ ss) =

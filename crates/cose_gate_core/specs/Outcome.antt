@@ -1,10 +1,11 @@
 -- What the contract of `gate` says of each result.
-use Rattle.std.specs.Prelude.{◌≡◌, ◌≢◌, ℕ, ◌+◌, ◌^◌, ◌<◌, ◌≤◌, ◌⊎◌, List, [], ◌∷◌, ◌++◌, length, Option, Some, None, Bool, true, IsTrue, Result, Ok, Err, if◌then◌else◌}
+use Rattle.std.specs.Prelude.{◌≡◌, ◌≢◌, ℕ, ◌+◌, ◌^◌, ◌<◌, ◌≤◌, ◌⊎◌, List, [], ◌∷◌, ◌++◌, length, map, Option, Some, None, Bool, true, IsTrue, Result, Ok, Err, if◌then◌else◌}
 use Rattle.std.specs.Io.KnownBytes.{Appends}
 use Rattle.ciborium_ll.specs.Reading.{Moves}
 use Rattle.ciborium_value.specs.declared.value.Value.{Value}
 use Rattle.ciborium_value.specs.View.{view}
 use Rattle.ciborium.specs.Front.{HoldsOne}
+use Rattle.ciborium.specs.Items.{SequenceWithin}
 use Rattle.ciborium.specs.Damage.{end, deep, syntax, semantic, Damage}
 use Rattle.ciborium.specs.Reading.{IfKnown, IfEnd, IsNoMemory, SomeTaken}
 use Rattle.ciborium.specs.declared.de.Error.{Error}
@@ -13,7 +14,7 @@ use Rattle.cose_gate_core.specs.Questions.{Question}
 use Rattle.cose_gate_core.specs.Asked.{folded_over, IsFront}
 use Rattle.cose_gate_core.specs.Findings.{Bounds}
 use Rattle.cose_gate_core.specs.Terms.{IsTaken}
-use Rattle.cose_gate_core.specs.Run.{Step, Course, questions_of, output_of, written_of, passes, entries_of, passed_count, refused_count}
+use Rattle.cose_gate_core.specs.Run.{Step, Steps, Course, questions_of, output_of, written_of, passes, entries_of, passed_count, refused_count}
 use Rattle.cose_gate_core.specs.declared.report.Entry.{Entry}
 use Rattle.cose_gate_core.specs.declared.terms.Terms.{Terms}
 use Rattle.cose_gate_core.specs.declared.gating.Counts.{Counts}
@@ -31,7 +32,7 @@ pub record Rules (T S : Type 0) : Type 0 where
 
 -- what the judge was told, what the report was told, what was written, the offset, and the bytes to
 -- come
-pub record Sight (T S : Type 0) : Type 0 where
+pub record GateState (T S : Type 0) : Type 0 where
   pub told : T
   pub state : S
   pub written : Option (List ℕ)
@@ -39,11 +40,23 @@ pub record Sight (T S : Type 0) : Type 0 where
   pub left : Option (List ℕ)
 
 -- all of these steps were made: their questions asked, their entries noted, their output written
-pub record Made {T S : Type 0} (rules : Rules T S) (old new : Sight T S)
+pub record Made {T S : Type 0} (rules : Rules T S) (old new : GateState T S)
     (ss : List Step) : Type 0 where
   pub told : new.told ≡ folded_over rules.decided old.told (questions_of rules.allows rules.aad ss)
   pub state : new.state ≡ folded_over rules.folded old.state (entries_of ss)
   pub written : Appends old.written new.written (output_of rules.allows rules.aad ss)
+
+-- these steps were made, of which so many passed and so many were refused; they took the bytes of
+-- their items
+pub record Reached {T S : Type 0} (rules : Rules T S) (old new : GateState T S)
+    (passed refused : ℕ) : Type 0 where
+  pub done : List Step
+  pub taken : Moves old.left new.left old.offset new.offset
+      (λ b. SequenceWithin rules.limits.nesting old.offset b (map (λ s. s.item) done) [])
+  pub steps : Steps rules.limits rules.allows rules.aad 1 done
+  pub made : Made rules old new done
+  pub passed_is : passed ≡ passed_count rules.allows rules.aad done
+  pub refused_is : refused ≡ refused_count rules.allows rules.aad done
 
 -- the fault of the bytes `more`, if no item of at most n levels begins; `stop` is the place after
 -- them. A failure of the reader says nothing of the bytes, and being out of memory is no such
@@ -80,7 +93,7 @@ IsReadFault ends n left left' at at' Memory = Moves left left' at at' HoldsOne
 -- the gate is in `more`, the last bytes of the input: some of them were taken, none or all as it
 -- may be, and the offset is as far before the end of the input as the rest of them is long. If P,
 -- this rest is what the reader tells to come, if it told what was to come at the call.
-pub record StandsIn {T S : Type 0} (old new : Sight T S) (input more : List ℕ)
+pub record StandsIn {T S : Type 0} (old new : GateState T S) (input more : List ℕ)
     (P : Type 0) : Type 0 where
   pub taken : List ℕ
   pub rest : List ℕ
@@ -90,7 +103,7 @@ pub record StandsIn {T S : Type 0} (old new : Sight T S) (input more : List ℕ)
 
 -- of the bytes `more`, the last ones of the input, no item ends before the last of those that were
 -- taken
-abbrev pub TakesOne : {T S : Type 0} → Sight T S → Sight T S → List ℕ → List ℕ → Type 0
+abbrev pub TakesOne : {T S : Type 0} → GateState T S → GateState T S → List ℕ → List ℕ → Type 0
 TakesOne old new input more = (taken rest : List ℕ) → more ≡ taken ++ rest
     → new.offset + length rest ≡ old.offset + length input → HoldsOne taken
 
@@ -100,7 +113,7 @@ IsNoReaderFault {E} e = (x : E) → e ≢ de.Io x
 
 -- Ok: the steps go through the whole input, all of them were made, the offset has grown by all
 -- bytes, and the reader tells that nothing is left, if it tells what is to come
-pub record Whole {T S : Type 0} (rules : Rules T S) (old new : Sight T S) (input : List ℕ)
+pub record Whole {T S : Type 0} (rules : Rules T S) (old new : GateState T S) (input : List ℕ)
     (counts : Counts) : Type 0 where
   pub steps : List Step
   pub course : Course rules.limits rules.allows rules.aad old.offset input steps []
@@ -114,7 +127,7 @@ pub record Whole {T S : Type 0} (rules : Rules T S) (old new : Sight T S) (input
 -- `more`, which begin there, some were taken, or none, but at an end some; the rest is left, but
 -- after a fault of the reader what is left is open.
 pub record IfDecodeFailed {T S E : Type 0} (ends : E → Bool) (rules : Rules T S)
-    (old new : Sight T S) (input : List ℕ) (e : Error E) : Type 0 where
+    (old new : GateState T S) (input : List ℕ) (e : Error E) : Type 0 where
   pub steps : List Step
   pub more : List ℕ
   pub course : Course rules.limits rules.allows rules.aad old.offset input steps more
@@ -129,7 +142,7 @@ pub record IfDecodeFailed {T S E : Type 0} (ends : E → Bool) (rules : Rules T 
 -- Write: `done` were made; the message of the next step passes, all was asked about it, and a
 -- beginning of its encoding was written. The offset is the one after its item, and `more` is to
 -- come.
-pub record IfWriteFailed {T S : Type 0} (rules : Rules T S) (old new : Sight T S)
+pub record IfWriteFailed {T S : Type 0} (rules : Rules T S) (old new : GateState T S)
     (input : List ℕ) : Type 0 where
   pub done : List Step
   pub last : Step
@@ -150,7 +163,7 @@ pub record IfWriteFailed {T S : Type 0} (rules : Rules T S) (old new : Sight T S
 -- nothing of it was written. The offset is the one after its item then, and `more` is to come. If
 -- there is no such step, an item was due: it was being read, or looked at, and some of the bytes
 -- `more` were taken, but none after that item; the rest is left.
-pub record IfMemoryRefused {T S : Type 0} (rules : Rules T S) (old new : Sight T S)
+pub record IfOutOfMemory {T S : Type 0} (rules : Rules T S) (old new : GateState T S)
     (input : List ℕ) : Type 0 where
   pub done : List Step
   pub last : List Step
@@ -172,19 +185,34 @@ pub record IfMemoryRefused {T S : Type 0} (rules : Rules T S) (old new : Sight T
   pub between : last ≡ [] → StandsIn old new input more (Unit {0})
   pub one_due : last ≡ [] → TakesOne old new input more
 
-abbrev pub Outcome : {T S E : Type 0} → (E → Bool) → Rules T S → Sight T S → Sight T S → List ℕ
+abbrev pub Outcome : {T S E : Type 0} → (E → Bool) → Rules T S → GateState T S → GateState T S → List ℕ
     → Result Counts (GateFault E) → Type 0
 Outcome ends rules old new input (Ok counts) = Whole rules old new input counts
 Outcome ends rules old new input (Err (Decode e)) = IfDecodeFailed ends rules old new input e
 Outcome ends rules old new input (Err Write) = IfWriteFailed rules old new input
-Outcome ends rules old new input (Err Memory) = IfMemoryRefused rules old new input
+Outcome ends rules old new input (Err Memory) = IfOutOfMemory rules old new input
 
 -- some bytes were there, those to come if these are known, and the result has its outcome over them
-pub record Answers {T S E : Type 0} (ends : E → Bool) (rules : Rules T S) (old new : Sight T S)
+pub record Answers {T S E : Type 0} (ends : E → Bool) (rules : Rules T S) (old new : GateState T S)
     (r : Result Counts (GateFault E)) : Type 0 where
   pub input : List ℕ
   pub is : IfKnown old.left (λ b. b ≡ input)
   pub outcome : Outcome ends rules old new input r
+
+-- what became of the next item, seen from the first one on, if so many were counted before it
+abbrev pub NextSince : {T S E : Type 0} → (E → Bool) → Rules T S → Counts → GateState T S → GateState T S
+    → Result (Option Counts) (GateFault E) → Type 0
+NextSince ends rules counts first new (Ok (Some next)) =
+    Reached rules first new next.passed next.refused
+NextSince ends rules counts first new (Ok None) = Answers ends rules first new (Ok counts)
+NextSince ends rules counts first new (Err fault) = Answers ends rules first new (Err fault)
+
+-- the gate goes on by the next item, whatever was seen first of the items that were counted
+abbrev pub GoesOn : {T S E : Type 0} → (E → Bool) → Rules T S → Counts → GateState T S → GateState T S
+    → Result (Option Counts) (GateFault E) → Type 0
+GoesOn {T} {S} ends rules counts old new r =
+    (first : GateState T S) → Reached rules first old counts.passed counts.refused
+    → NextSince ends rules counts first new r
 
 -- how often the reader and the writer have failed in the call
 abbrev pub reader_failures : {X E : Type 0} → (E → Bool) → Result X (GateFault E) → ℕ
@@ -198,8 +226,8 @@ reader_failures ends (Err (Decode de.TooLong)) = 0
 reader_failures ends (Err Write) = 0
 reader_failures ends (Err Memory) = 0
 
-abbrev pub writer_failures : {E : Type 0} → Result Counts (GateFault E) → ℕ
-writer_failures (Ok counts) = 0
+abbrev pub writer_failures : {X E : Type 0} → Result X (GateFault E) → ℕ
+writer_failures (Ok x) = 0
 writer_failures (Err (Decode e)) = 0
 writer_failures (Err Write) = 1
 writer_failures (Err Memory) = 0

@@ -17,7 +17,7 @@ abbrev pub AreReceived : List SignatureFields → Type 0
 AreReceived [] = Unit {0}
 AreReceived (s ∷ ss) = IsReceived (signer_of s) × AreReceived ss
 
--- so for each protected header that the structures of a message show
+-- each protected header that the structures of a message show is shown as received
 abbrev pub IsReceivedMessage : MessageFields → Type 0
 IsReceivedMessage (sign1 m) = IsReceived m.protected
 IsReceivedMessage (mac0 m) = IsReceived m.protected

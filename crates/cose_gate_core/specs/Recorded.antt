@@ -58,7 +58,7 @@ abbrev pub holds_question : Recorder → Subject → List ℕ → Type 0
 holds_question r subject bytes =
     (r.kind ≡ subject.kind) × (r.structure.items ≡ bytes) × (vec_len r.asked < vec_capacity r.asked)
 
--- it holds what it held
+-- it has the pieces that it had, and holds the question that it held
 abbrev pub IsKept : Recorder → Recorder → Type 0
 IsKept old new = (pieces_of new ≡ pieces_of old)
     × ((subject : Subject) (bytes : List ℕ) → holds_question old subject bytes

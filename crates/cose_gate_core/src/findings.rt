@@ -1,4 +1,4 @@
-//! Laws of what is found: it is there, and it is one.
+//! Laws of what is found of items: something always is, and nothing else.
 ghost use Rattle.std.specs.Prelude.{◌≡◌, ◌≢◌, ℕ, ◌<◌, List, ◌++◌, All, Bool};
 ghost use Rattle.ciborium_value.specs.Encoding.{Fits};
 ghost use Rattle.ciborium_value.specs.Tree.{Tree};
@@ -28,7 +28,7 @@ pub fn shape_holds_no_memory()
 
 /// Every input has a run, whatever the judge. All its runs say the same of each item, but that of a
 /// `Shape` it isn't said which of the value's faults it names; that they ask and write the same is
-/// the law `one_run`. What was gone through at a fault can be gone on with, to a run.
+/// the law `one_run`. The steps that were made when a fault was met can be continued to a run.
 pub fn every_input_run()
     ensures there { (limits : Bounds) (allows : Question → Bool) (aad : List ℕ) (at : ℕ)
         (b : List ℕ) → All (λ x. x < 256) b → (ss : List Step) × (rest : List ℕ)

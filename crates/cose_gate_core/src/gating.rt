@@ -1,6 +1,6 @@
 //! The gate.
 ghost use Rattle.std.specs.Prelude.{◌≡◌, ◌≢◌, ◌+◌, ◌<◌, ◌^◌, [], Some, None, Ok, Err};
-ghost use Rattle.std.specs.Prelude.{IsOk, IfOk, IfErr, OnOk, true, not, if◌then◌else◌};
+ghost use Rattle.std.specs.Prelude.{◌≤◌, IsOk, IfOk, IfErr, IfSome, OnOk, true, not, if◌then◌else◌};
 ghost use Rattle.ciborium.specs.Damage.{Damage};
 ghost use Rattle.ciborium.specs.Front.{HoldsOne};
 ghost use Rattle.ciborium.specs.Reading.{NamesFault, Steady, TakesSome, IsNoMemory, IfEnd};
@@ -10,7 +10,7 @@ ghost use Rattle.ciborium_ll.specs.Views.{left_of, offset_of, waiting_of, reader
 ghost use Rattle.ciborium_value.specs.View.{view};
 ghost use Rattle.coset_labels.specs.Limits.{nesting_of};
 ghost use Rattle.cose_gate_core.specs.Calls.{rules_by, sight_of};
-ghost use Rattle.cose_gate_core.specs.Outcome.{Answers, IsNext, IsReadFault, IfTooLong};
+ghost use Rattle.cose_gate_core.specs.Outcome.{Answers, IsNext, IsReadFault, IfTooLong, GoesOn};
 ghost use Rattle.cose_gate_core.specs.Outcome.{reader_failures, writer_failures};
 ghost use Rattle.cose_gate_core.specs.Passing.{at_end};
 ghost use Rattle.cose_gate_core.specs.Run.{has_passed};
@@ -195,6 +195,65 @@ fn entry_of(counts: Counts, offset: usize, verdict: Verdict) -> Entry
     }
 }
 
+/// What the next item goes by.
+#[derive(Clone, Copy)]
+pub struct ItemTerms<'a> {
+    /// The limits, and whether the gate is strict.
+    pub terms: Terms,
+    /// The external data.
+    pub aad: &'a [u8],
+    /// How many items before it passed, and how many were refused.
+    pub counts: Counts,
+}
+
+/// One item more of what `gate_by` does: the counts with it, or `None` if no byte is left. The
+/// contract goes on from what was seen at the first of the items that are counted.
+///
+/// # Errors
+/// Those of `gate_by`.
+pub fn gate_next<R: Read, W: Write, P: Report, J: Judge>(
+    alloc: Global,
+    item: ItemTerms<'_>,
+    decoder: &mut Decoder<R>,
+    out: &mut W,
+    report: &mut P,
+    judge: &mut J,
+) -> Result<Option<Counts>, GateFault<R::Error>>
+    requires fresh { item.terms.strict ≡ true → waiting_of decoder.old ≡ None }
+    requires room { item.counts.passed + item.counts.refused ≤ offset_of decoder.old }
+    ensures ran { GoesOn R.ends
+        (rules_by (limits_of item.entry.terms) P.Report J.Judge judge.old item.entry.aad.now)
+        item.entry.counts
+        (sight_of R.Read W.Write P.Report J.Judge decoder.old out.old report.old judge.old)
+        (sight_of R.Read W.Write P.Report J.Judge decoder.new out.new report.new judge.new) result }
+    ensures more { IfOk result (λ next. IfSome next (λ c.
+        (offset_of decoder.old < offset_of decoder.new) × (c.passed + c.refused
+        ≡ item.entry.counts.passed + item.entry.counts.refused + 1))) }
+    ensures nothing { left_of R.left decoder.old ≡ Some []
+        → R.failed (reader_of decoder.new) ≡ R.failed (reader_of decoder.old)
+        → offset_of decoder.old + 4096 < 2 ^ 64 → result ≡ Ok None }
+    ensures no_memory_of_nothing { left_of R.left decoder.old ≡ Some []
+        → result ≢ Err Memory }
+    ensures far { IfErr result (IfTooLong (IsFar (offset_of decoder.new))) }
+    ensures reader { R.failed (reader_of decoder.new)
+        ≡ R.failed (reader_of decoder.old) + reader_failures R.ends result }
+    ensures writer { W.failed out.new ≡ W.failed out.old + writer_failures result }
+    ensures who { J.who judge.new ≡ J.who judge.old }
+    ensures kept { R.handle (reader_of decoder.new) ≡ R.handle (reader_of decoder.old) }
+    ensures lent { W.handle out.new ≡ W.handle out.old }
+    ensures fits { offset_of decoder.new < 2 ^ 64 }
+    ensures fresh { waiting_of decoder.new ≡ None }
+{
+    let offset = decoder.offset();
+    let Some((value, exact)) = next_item(alloc, item.terms, decoder)? else {
+        return Ok(None);
+    };
+    let verdict = pass(alloc, item.terms, exact, value, out, item.aad, judge)?;
+    let counts = counted(item.counts, verdict);
+    report.note(&entry_of(counts, offset, verdict))?;
+    Ok(Some(counts))
+}
+
 /// Asks the judge about each tagged COSE_Sign1, COSE_Mac0, COSE_Sign and COSE_Mac of a CBOR
 /// sequence that carries its payload, over exactly the bytes that its signature or tag covers, with
 /// `aad` as external data, and writes those that passed, each as its canonical encoding (definite
@@ -260,12 +319,10 @@ pub fn gate_by<R: Read, W: Write, P: Report, J: Judge>(
         refused: 0,
     };
     'items: loop {
-        let offset = decoder.offset();
-        let Some((value, exact)) = next_item(alloc, terms, decoder)? else {
+        let item = ItemTerms { terms, aad, counts };
+        let Some(next) = gate_next(alloc, item, decoder, out, report, judge)? else {
             return Ok(counts);
         };
-        let verdict = pass(alloc, terms, exact, value, out, aad, judge)?;
-        counts = counted(counts, verdict);
-        report.note(&entry_of(counts, offset, verdict))?;
+        counts = next;
     }
 }

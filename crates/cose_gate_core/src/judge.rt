@@ -9,24 +9,24 @@ use std::alloc::AllocError;
 /// Answers questions about messages: `begin` says what a question is about, `feed` hands over the
 /// covered bytes in pieces, and `decide` hands over the signature or tag and takes the answer.
 ///
-/// An implementation says in its meaning what it is (`who`, which never changes), which answer it
-/// gives to a question (`yes`), what it keeps of the questions (`told`, and `decided`, which adds
-/// one), and when it holds a begun question (`holds`). Its answer depends on the question and on
-/// `who` alone.
+/// An implementation says in its meaning what its answers depend on beside the question (`who`,
+/// which never changes), which answer it gives to a question (`yes`), what it keeps of the
+/// questions (`told`, and `decided`, which adds one), and when it holds a begun question (`holds`).
 ///
-/// What the gate's clauses call asked is what was decided: that no question is begun or fed in
-/// vain, as about an item that is refused, is read in the code (`asking.rt`) and tested.
+/// In the gate's clauses a question is asked once it is decided. No clause says that no question is
+/// begun or fed in vain, as about an item that is refused: that is read in the code (`asking.rt`)
+/// and tested.
 pub trait Judge {
-    /// What a judge is.
+    /// What the answers of a judge depend on, beside the question.
     ghost Who: { Type 0 };
 
     /// What a judge keeps of the questions.
     ghost Told: { Type 0 };
 
-    /// What it is.
+    /// What its answers depend on. No call changes it.
     ghost who: { Self → Who };
 
-    /// What it was told.
+    /// What it keeps of the questions so far.
     ghost told: { Self → Told };
 
     /// Which question it holds, and the covered bytes that were fed.
@@ -38,7 +38,7 @@ pub trait Judge {
     /// The answer to a question.
     ghost yes: { Who → Question → Bool };
 
-    /// What it was told after one more question.
+    /// What it keeps after one more question.
     ghost decided: { Told → Question → Told };
 
     /// Begins a question, and forgets one that was begun.

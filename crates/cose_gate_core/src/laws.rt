@@ -14,7 +14,7 @@ pub use crate::output::{
 };
 pub use crate::runs::{course_begins_run, joined_runs, refused_taken_out, same_trees};
 
-/// What is found of an item is one.
+/// An item has one finding at most.
 pub fn one_finding()
     ensures { (limits : Bounds) (b : List ℕ) (t : Tree) (f g : Finding) → Finds limits b t f
         → Finds limits b t g → f ≡ g }
@@ -28,8 +28,7 @@ pub fn judged_can_be_written()
         → option_map enc (tagged_tree m) ≡ Some (message_text m) }
 {}
 
-/// What is asked and written for one input is one: all runs over it ask the same questions in the
-/// same order, and write the same bytes.
+/// All runs over one input ask the same questions in the same order, and write the same bytes.
 pub fn one_run()
     ensures { (limits : Bounds) (allows : Question → Bool) (aad : List ℕ) (at : ℕ) (b : List ℕ)
         (ss rs : List Step) (rest more : List ℕ) → Run limits allows aad at b ss rest

@@ -23,7 +23,7 @@ mod writing;
 
 pub use crate::about::{About, MessageKind};
 pub use crate::asking::received;
-pub use crate::gating::{Counts, GateFault, gate_by};
+pub use crate::gating::{Counts, GateFault, ItemTerms, gate_by, gate_next};
 pub use crate::judge::Judge;
 pub use crate::recorder::{Asked, Recorder};
 pub use crate::report::{Entry, Refusal, Report, Silent, Verdict};

@@ -28,7 +28,7 @@ pub trait Message: Drop + Sized {
     /// What it says.
     ghost message: { Self → MessageFields };
 
-    /// One without any field.
+    /// A message with no field.
     fn empty(alloc: Global) -> Self;
 
     /// Reads the content of the kind's tag into it, in place of its fields, within these limits.

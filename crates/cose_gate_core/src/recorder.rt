@@ -95,7 +95,7 @@ impl Judge for Recorder {
         ensures told { asked_of self.new ≡ asked_of self.old }
         ensures who { refused_of self.new ≡ refused_of self.old }
 
-        // A refused one leaves the question that is held.
+        // A call that fails leaves the question that is held.
         ensures kept { OnErr result (IsKept self.old self.new) }
     {
         self.asked.reserve(1)?;
@@ -115,7 +115,7 @@ impl Judge for Recorder {
         ensures told { asked_of self.new ≡ asked_of self.old }
         ensures who { refused_of self.new ≡ refused_of self.old }
 
-        // A refused one leaves the question that is held.
+        // A call that fails leaves the question that is held.
         ensures kept { OnErr result (IsKept self.old self.new) }
     {
         self.structure.extend_from_slice(piece)?;

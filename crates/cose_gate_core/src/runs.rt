@@ -6,8 +6,9 @@ ghost use Rattle.cose_gate_core.specs.Run.{Step, Course, Run, entries_of};
 ghost use Rattle.cose_gate_core.specs.Anew.{bytes_of, entry_behind, IgnoresSpelling};
 ghost use Rattle.cose_gate_core.specs.Runs.{BeginsRun, JoinsRuns, LeavesOut, SayTheSame};
 
-/// What was gone through at a fault is a beginning of the run: its items, its questions, its output
-/// and its entries. Of an entry's `Shape` it isn't said which of the value's faults it names.
+/// The items that a gate has gone through when it meets a fault begin the run of the input, and so
+/// do its questions, its output and its entries. Of an entry's `Shape` it isn't said which of the
+/// value's faults it names.
 pub fn course_begins_run()
     ensures { (limits : Bounds) (allows : Question → Bool) (aad : List ℕ) (at : ℕ)
         (b : List ℕ) (ss rs : List Step) (more rest : List ℕ)
@@ -15,9 +16,9 @@ pub fn course_begins_run()
         → BeginsRun allows aad ss rs }
 {}
 
-/// If nothing is left after the items of `a`, the run of `a` and then `b` is that of `a` and then
-/// that of `b`: its questions, its output and what is left. The entries of `b` are as many items
-/// and bytes further on as `a` has.
+/// If nothing is left after the items of `a`, the run of `a` and then `b` has the questions, the
+/// output and the rest of the run of `a` and then of that of `b`. The entries of `b` are as many
+/// items and bytes further on as `a` has.
 pub fn joined_runs()
     ensures there { (limits : Bounds) (allows : Question → Bool) (aad : List ℕ) (at : ℕ)
         (a b : List ℕ) (ss rs : List Step) (rest : List ℕ) → Run limits allows aad at a ss []

@@ -1,4 +1,4 @@
-//! What a gate goes by.
+//! Limits, and whether a gate is strict.
 
 use coset_labels::Limits;
 

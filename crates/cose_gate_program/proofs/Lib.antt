@@ -3,10 +3,10 @@ pub mod Begins
 pub mod Found
 pub mod Headers
 pub mod Held
+pub mod LentLines
 pub mod Moved
 pub mod Numbers
 pub mod Runs
-pub mod Spoken
 pub mod Tellings
 pub mod Verdicts
 pub mod Written

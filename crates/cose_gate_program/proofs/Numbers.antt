@@ -69,7 +69,7 @@ named_is r i y m n x e same = sym (ap (λ z. is_entry i (named_view r.number z))
 pub named_not : {E : Type 0} (r : Registry E) (i : ℤ) (y : E) → r.number y ≡ i → (n : RegisteredLabelWithPrivate E) (x : E) → n ≡ open_name.Assigned x → x ≢ y → false ≡ is_entry i (named_view r.number n)
 named_not r i y m n x e other = sym (ap (λ z. is_entry i (named_view r.number z)) e ∙ no_number r i x y m other)
 
--- one of three
+-- a disjunction of three is true if one of them is
 first_of : (a b c : Bool) → true ≡ a → true ≡ (a || (b || c))
 first_of a b c e = ap (λ z. z || (b || c)) e
 

@@ -2,7 +2,7 @@
 use Rattle.std.proofs.Common.{◌≡◌, ◌≢◌, ℕ, ◌+◌, ◌⊎◌, inl, inr, List, [], ◌∷◌, ◌++◌, length, Option, None, Some, Bool, cond, true, refl, sym, ap, subst, ◌∙◌, arith, append-nil, zero-add}
 use Rattle.std.proofs.lemmas.Grind.{flat_map-append}
 use Rattle.std.specs.Prelude.{Result, Ok, Err, IsOk, is_ok}
-use Rattle.std.specs.Io.KnownBytes.{Appends, Keeps}
+use Rattle.std.specs.Io.KnownBytes.{Appends, Consumes, Keeps}
 use Rattle.ciborium_ll.specs.Device.{write_failures}
 use Rattle.ciborium_ll.specs.Reading.{due}
 use Rattle.ciborium_ll.specs.declared.hdr.Header.{Header}
@@ -11,13 +11,15 @@ use Rattle.cose_gate_core.specs.Questions.{Question}
 use Rattle.cose_gate_core.specs.Asked.{IsFront, folded_over}
 use Rattle.cose_gate_core.specs.Findings.{Bounds}
 use Rattle.cose_gate_core.specs.Run.{Step, Course, asked_of, written_of, text_of, questions_of, output_of, entries_of, passed_count, refused_count}
-use Rattle.cose_gate_core.specs.Outcome.{Rules, Sight, Made, Answers, Outcome, IfMemoryRefused, IsFaultOf, reader_failures, writer_failures}
+use Rattle.cose_gate_core.specs.Outcome.{Rules, GateState, Made, Reached, Answers, Outcome, IfOutOfMemory, IsFaultOf, reader_failures, writer_failures}
 use Rattle.cose_gate_core.specs.declared.gating.Counts.{Counts}
 use Rattle.cose_gate_core.specs.declared.gating.GateFault.{GateFault}
 use Rattle.cose_gate_core.specs.declared.gating.GateFault.TheVariants as gating
 use Rattle.ciborium.specs.declared.de.Error.{Error}
 use Rattle.cose_gate_program.specs.Faults.{is_end}
-use Rattle.cose_gate_program.specs.Program.{Devices, asking, writing, noting, Ending, finished, unreadable, no_memory, within, GateRun, at_hand, taken_at, asked_at, written_at, asked_in, written_in, result_of, EndsAt, Leaves, Shows}
+use Rattle.cose_gate_core.proofs.Outcomes.{rest_of, rest_known, rest_told, left_after}
+use Rattle.cose_gate_program.specs.Live.{EndsLive}
+use Rattle.cose_gate_program.specs.Program.{Devices, asking, writing, noting, Ending, finished, unflushed, unreadable, no_memory, within, GateRun, at_hand, taken_at, asked_at, written_at, asked_in, written_in, result_of, EndsAt, Leaves, Shows}
 use Rattle.cose_gate_program.specs.Telling.{items_of, Gated}
 use Rattle.cose_gate_program.specs.declared.devices.InputFault.{InputFault}
 use Rattle.cose_gate_program.specs.declared.telling.Notice.{Notice}
@@ -51,7 +53,7 @@ counted count p q a b =
     ∙ ap (λ (z : ℕ). let c : Counts = record { passed = p; refused = z } in c) b
 
 -- the gate's result over a decoder that began here is that of a run
-module _ {T S : Type 0} (by : Rules T S) (old new : Sight T S) (n n' f f' : ℕ) (r : Result Counts (GateFault InputFault))
+module _ {T S : Type 0} (by : Rules T S) (old new : GateState T S) (n n' f f' : ℕ) (r : Result Counts (GateFault InputFault))
     (start : old.offset ≡ 0) (reads : n' ≡ n + reader_failures is_end r) (writes : f' ≡ f + writer_failures r)
     (nothing : old.left ≡ Some [] → n' ≡ n → IsOk r) where
   abbrev qs : List Step → List Question
@@ -109,7 +111,7 @@ module _ {T S : Type 0} (by : Rules T S) (old new : Sight T S) (n n' f f' : ℕ)
   one_written done next = flat_map-append (λ s. written_of by.allows by.aad s.finding) done (next ∷ []) ∙ ap (λ z. ws done ++ z) (append-nil _)
 
   -- out of memory: with no item at hand, or with one
-  module _ (input : List ℕ) (is : IfKnown old.left (λ b. b ≡ input)) (o : IfMemoryRefused by old new input) (same : r ≡ Err gating.Memory) where
+  module _ (input : List ℕ) (is : IfKnown old.left (λ b. b ≡ input)) (o : IfOutOfMemory by old new input) (same : r ≡ Err gating.Memory) where
     none_asked : (asked : List Question) → IsFront asked [] → asked ≡ []
     none_asked [] front = refl
     none_asked (q ∷ asked) front = let no : [] ≡ q ∷ (asked ++ front.more) = front.whole in absurd (cc)
@@ -178,16 +180,24 @@ module _ {T S : Type 0} (by : Rules T S) (old new : Sight T S) (n n' f f' : ℕ)
           o.behind o.written (o.told ∙ ap (folded_over by.decided old.told) (one_asked o.done o.last)) o.state same
       of (Err gating.Memory) same o = refused a.input a.is o same o.last refl
 
+  -- or the output could not be flushed after the last item
+  pub ran_live : EndsLive is_end by old new r → Gives
+  ran_live (inl a) = ran a
+  ran_live (inr (same, passed, refused, come)) =
+      let rest = rest_of new.left in
+      let w = left_after by old new come.done come.taken come.steps rest (rest_known new.left) in
+      between come.done unflushed rest rest refl refl refl w.input w.is w.course refl tt (rest_told old.left new.left come.taken.bytes come.taken.taken) come.made same
+
 -- the same by the input and the output that it was lent, and by what judge and report were told
-pub gated : {T S : Type 0} (by : Rules T S) (old new : Sight T S) (n n' f f' : ℕ) (r : Result Counts (GateFault InputFault)) (before after : Devices)
+pub gated : {T S : Type 0} (by : Rules T S) (old new : GateState T S) (n n' f f' : ℕ) (r : Result Counts (GateFault InputFault)) (before after : Devices)
     (Asked : List Question → Type 0) (Told : List Notice → Type 0)
     → old.offset ≡ 0 → before ≡ devices old.left old.written n f → after ≡ devices new.left new.written n' f'
-    → Answers is_end by old new r → n' ≡ n + reader_failures is_end r → f' ≡ f + writer_failures r → (old.left ≡ Some [] → n' ≡ n → IsOk r)
+    → EndsLive is_end by old new r → n' ≡ n + reader_failures is_end r → f' ≡ f + writer_failures r → (old.left ≡ Some [] → n' ≡ n → IsOk r)
     → ((qs : List Question) → new.told ≡ folded_over by.decided old.told qs → Asked qs)
     → ((ss : List Step) → new.state ≡ folded_over by.folded old.state (entries_of ss) → Told (items_of ss))
     → Gated by.limits by.allows by.aad before after r Asked Told
 gated by old new n n' f f' r before after Asked Told start first last a reads writes nothing asked told =
-    let run = ran by old new n n' f f' r start reads writes nothing a in
+    let run = ran_live by old new n n' f f' r start reads writes nothing a in
     record {
       run = run.0;
       shows = subst (λ (d : Devices). Shows by.limits by.allows by.aad d after run.0 true) (sym first)
@@ -198,11 +208,32 @@ gated by old new n n' f f' r before after Asked Told start first last a reads wr
     }
 
 -- a flush adds nothing
-flushed : (a b c : Option (List ℕ)) (x : List ℕ) → Keeps b c → Appends a b x → Appends a c x
+pub flushed : (a b c : Option (List ℕ)) (x : List ℕ) → Keeps b c → Appends a b x → Appends a c x
 flushed None b c x q p = tt
 flushed (Some a) None c x q p = absurd p
 flushed (Some a) (Some b) None x q p = absurd q
 flushed (Some a) (Some b) (Some c) x q p = q ∙ p
+
+-- steps that were made stay made if the output is flushed, and the report stays as it was
+pub come_flushed : {T S : Type 0} (by : Rules T S) (old new newer : GateState T S) (p q : ℕ) → Reached by old new p q → newer.told ≡ new.told → newer.state ≡ new.state
+    → Keeps new.written newer.written → newer.offset ≡ new.offset → newer.left ≡ new.left → Reached by old newer p q
+come_flushed by old new newer p q come told state kept offset left = record {
+  done = come.done;
+  taken = record {
+    bytes = come.taken.bytes;
+    has = come.taken.has;
+    taken = subst (λ (l : Option (List ℕ)). Consumes old.left l come.taken.bytes) (sym left) come.taken.taken;
+    grown = offset ∙ come.taken.grown;
+  };
+  steps = come.steps;
+  made = record {
+    told = told ∙ come.made.told;
+    state = state ∙ come.made.state;
+    written = flushed old.written new.written newer.written (output_of by.allows by.aad come.done) kept come.made.written;
+  };
+  passed_is = come.passed_is;
+  refused_is = come.refused_is;
+}
 
 -- a flush that failed counts
 once_more : {X F : Type 0} (answer : Result X F) (m k n : ℕ) → m ≡ k + 0 → n ≡ write_failures answer m → n ≡ k + cond (is_ok answer) 0 1

@@ -13,7 +13,7 @@ use Rattle.cose_gate_core.specs.declared.gating.GateFault.{GateFault}
 use Rattle.cose_gate_core.specs.declared.report.Entry.{Entry}
 use Rattle.coset_keys.specs.Fields.{KeyFields}
 use Rattle.coset_keys.specs.Keys.{HasKeySet}
-use Rattle.cose_gate_program.specs.Heard.{Heard}
+use Rattle.cose_gate_program.specs.LentTeller.{LentTeller}
 use Rattle.cose_gate_program.specs.Program.{Devices, GateRun, Shows, asked_in, result_of}
 use Rattle.cose_gate_program.specs.Telling.{items_of, last_of, status_at, RanTold, EndsTold, not_begun, after_run}
 use Rattle.cose_gate_program.specs.declared.devices.InputFault.{InputFault}
@@ -31,21 +31,21 @@ pub tells_then : {S X : Type 0} (step : S → X → S) (s mid last : S) (xs : Li
 tells_then step s mid last xs x first then = then ∙ (ap (λ (z : _). step z x) first ∙ sym (folded_then step s xs x))
 
 -- a report that hands items on
-abbrev hears : {S : Type 0} → (S → Notice → S) → Heard S → Entry → Heard S
+abbrev hears : {S : Type 0} → (S → Notice → S) → LentTeller S → Entry → LentTeller S
 hears step h e = record h { state = step h.state (Item e) }
 
-heard_over : {S : Type 0} (step : S → Notice → S) (h : Heard S) (es : List Entry)
+heard_over : {S : Type 0} (step : S → Notice → S) (h : LentTeller S) (es : List Entry)
     → folded_over (hears step) h es ≡ record h { state = folded_over step h.state (map (λ e. Item e) es) }
 heard_over step h [] = refl
 heard_over step h (e ∷ es) = heard_over step (hears step h e) es
 
 -- it is the same one, and this is what it was told
-pub heard_by : {S : Type 0} (step : S → Notice → S) (h h' : Heard S) (es : List Entry) → h' ≡ folded_over (hears step) h es → h'.name ≡ h.name
-heard_by step h h' es e = ap (λ (z : Heard _). z.name) (e ∙ heard_over step h es)
+pub heard_by : {S : Type 0} (step : S → Notice → S) (h h' : LentTeller S) (es : List Entry) → h' ≡ folded_over (hears step) h es → h'.name ≡ h.name
+heard_by step h h' es e = ap (λ (z : LentTeller _). z.name) (e ∙ heard_over step h es)
 
-pub heard_state : {S : Type 0} (step : S → Notice → S) (h h' : Heard S) (es : List Entry) → h' ≡ folded_over (hears step) h es
+pub heard_state : {S : Type 0} (step : S → Notice → S) (h h' : LentTeller S) (es : List Entry) → h' ≡ folded_over (hears step) h es
     → h'.state ≡ folded_over step h.state (map (λ e. Item e) es)
-heard_state step h h' es e = ap (λ (z : Heard _). z.state) (e ∙ heard_over step h es)
+heard_state step h h' es e = ap (λ (z : LentTeller _). z.state) (e ∙ heard_over step h es)
 
 -- the run after a flush, and the last notice
 pub ran_told : {limits : Bounds} {allows : Question → Bool} {aad : List ℕ} {old new : Devices} {status : ℕ} {A : List Question → Type 0}

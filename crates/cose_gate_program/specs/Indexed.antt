@@ -20,7 +20,7 @@ secret_at m id = option_map (λ s. s.secret.now) (get_by (λ k. slice_cmp nat_cm
 abbrev pub IsIndexOf : Secrets → List KeyFields → Type 0
 IsIndexOf m keys = (id : List ℕ) → secret_at m id ≡ secret_under id keys
 
--- n has what m has, and this key after it
+-- the index n has what m has, and where m has nothing the secret of this key
 abbrev pub Adds : Secrets → KeyFields → Secrets → Type 0
 Adds m k n = (id : List ℕ) → secret_at n id ≡ option_or (secret_at m id) (secret_under id (k ∷ []))
 

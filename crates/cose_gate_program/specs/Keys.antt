@@ -17,14 +17,14 @@ fits id k =
     && (is_symmetric k.kty
     && (is_some (secret k) && (allows_hmac k.alg && allows_verify k.key_ops)))
 
--- the first that fits
+-- the first key that fits
 abbrev pub first_fit : List ℕ → List KeyFields → Option KeyFields
 first_fit id keys = find (fits id) keys
 
--- what fits asks of a key beside its id
+-- what `fits` asks of a key, but for its id
 abbrev pub serves : KeyFields → Bool
 serves k = is_symmetric k.kty && (is_some (secret k) && (allows_hmac k.alg && allows_verify k.key_ops))
 
--- the secret of the first that fits
+-- the secret of the first key that fits
 abbrev pub secret_under : List ℕ → List KeyFields → Option (List ℕ)
 secret_under id keys = option_and_then secret (first_fit id keys)

@@ -1,13 +1,14 @@
 pub mod Beginning
 pub mod Faults
-pub mod Heard
 pub mod InBlocks
 pub mod Indexed
 pub mod Judge
 pub mod Judging
 pub mod Keeps
 pub mod Keys
+pub mod LentTeller
 pub mod Lines
+pub mod Live
 pub mod Messages
 pub mod Names
 pub mod OutOfBlocks

@@ -47,10 +47,12 @@ pub data Half : Type 0 where
   writing : List ℕ → Half
   noting : Half
 
--- how a run ended: all items were done; no readable item begins at what is left, for this fault, or
--- there is no memory for it, when so many bytes of it were taken; or at an item
+-- how a run ended: all items were done; the output could not be flushed after an item that was done;
+-- no readable item begins at what is left, for this fault, or there is no memory for it, when so
+-- many bytes of it were taken; or at an item
 pub data Ending : Type 0 where
   finished : Ending
+  unflushed : Ending
   unreadable : Error InputFault → List ℕ → Ending
   no_memory : List ℕ → Ending
   within : Step → Half → Ending
@@ -92,6 +94,7 @@ written_in allows aad run = output_of allows aad run.done ++ written_at allows a
 -- what the gate returns: how many items passed and were refused, or what stopped it
 abbrev pub result_at : Counts → Ending → Result Counts (GateFault InputFault)
 result_at counts finished = Ok counts
+result_at counts unflushed = Err Write
 result_at counts (unreadable e taken) = Err (Decode e)
 result_at counts (within next (writing part)) = Err Write
 result_at counts ending = Err Memory
@@ -106,6 +109,7 @@ result_of allows aad run = result_at (record {
 abbrev pub EndsAt : Bounds → (Question → Bool) → List ℕ → Option (List ℕ) → List ℕ → Ending
     → Type 0
 EndsAt limits allows aad told rest finished = rest ≡ []
+EndsAt limits allows aad told rest unflushed = Unit {0}
 EndsAt limits allows aad told rest (unreadable e taken) = IsNoMemory e
     × IfKnown told (λ b. IsFaultOf is_end limits.nesting (length b) (taken ++ rest) e)
 EndsAt limits allows aad told rest (no_memory taken) =

@@ -5,7 +5,7 @@ use Rattle.std.specs.Ordering.{int_eq}
 use Rattle.ciborium_value.specs.Tree.{Tree, bytes}
 use Rattle.coset_labels.specs.Fields.{LabelFields, number, words}
 
--- -1
+-- the label -1, of the secret (k)
 abbrev pub is_secret_label : LabelFields → Bool
 is_secret_label (number i) = int_eq i (negsuc 0)
 is_secret_label (words b) = false

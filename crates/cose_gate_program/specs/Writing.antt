@@ -35,15 +35,15 @@ WroteSince-prop w [] new text = Unit-prop
 WroteSince-prop w (old ∷ more) new text = Wrote-prop w old new text
 
 -- the lines of what was told were written since a writer was as in a log
-abbrev pub Spoke : {W F : Type 0} → Writes W F → Log W → W → Log Notice → Type 0
-Spoke w begun now told = WroteSince w begun.items now (lines_of told.items)
+abbrev pub LinesWritten : {W F : Type 0} → Writes W F → Log W → W → Log Notice → Type 0
+LinesWritten w begun now told = WroteSince w begun.items now (lines_of told.items)
 
-pub Spoke-prop : {W F : Type 0} (w : Writes W F) (begun : Log W) (now : W) (told : Log Notice)
-    → IsProp (Spoke w begun now told)
-Spoke-prop w begun now told = WroteSince-prop w begun.items now (lines_of told.items)
+pub LinesWritten-prop : {W F : Type 0} (w : Writes W F) (begun : Log W) (now : W) (told : Log Notice)
+    → IsProp (LinesWritten w begun now told)
+LinesWritten-prop w begun now told = WroteSince-prop w begun.items now (lines_of told.items)
 
 -- lines on a writer that is lent: what the writer was at first, and what was told since
-pub record Spoken (W : Type 0) : Type 0 where
+pub record LentLines (W : Type 0) : Type 0 where
   pub name : ℕ
   pub begun : List W
   pub told : List Notice

@@ -1,5 +1,5 @@
-//! The input and the output with small faults: what std's own fault holds isn't moved through each
-//! call.
+//! The input and the output with faults that hold nothing, so that std's own fault isn't moved
+//! through each call.
 ghost use Rattle.std.specs.Prelude.{◌≡◌, ◌∷◌};
 ghost use Rattle.cose_gate_program.specs.Faults.{is_end};
 
@@ -9,7 +9,7 @@ use thiserror::Error;
 /// Why bytes were not read.
 #[derive(Debug, Clone, Copy, PartialEq, Eq, Error)]
 pub enum InputFault {
-    /// They have ended.
+    /// The bytes have ended.
     #[error("EndOfFile")]
     End,
     /// The input failed.

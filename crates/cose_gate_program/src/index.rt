@@ -14,7 +14,7 @@ use std::collections::BTreeMap;
 /// The secrets of a set that a message can choose: of each key id that of the first key that fits.
 #[derive(Drop)]
 pub(crate) struct KeyIndex<'a> {
-    /// The set, of which contracts speak.
+    /// The set of keys, which contracts speak of in place of the index.
     pub(crate) set: &'a CoseKeySet,
     by_id: BTreeMap<&'a [u8], PreparedSecret<'a>>,
     ghost whole: { IsIndexOf by_id (key_set_view set.now) } by { Prim.hlevel props },

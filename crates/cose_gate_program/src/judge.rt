@@ -47,7 +47,7 @@ impl<'a> HmacJudge<'a> {
         }
     }
 
-    /// The tag of a message, fed nothing yet.
+    /// An HMAC for the tag of a message, which was fed nothing yet.
     fn fresh_mac(&self, about: &About) -> Option<HmacSha256>
         ensures { Makes result (spec.secret_about (keys_of self.now) (subject_of about.now)) [] }
     {

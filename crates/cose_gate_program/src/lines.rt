@@ -4,7 +4,8 @@ ghost use Rattle.std.specs.Fmt.{decimal};
 ghost use Rattle.cose_gate_program.specs.Lines as spec;
 ghost use Rattle.cose_gate_program.specs.Lines.{line_of};
 ghost use Rattle.ciborium_ll.specs.declared.log.Log.{Log};
-ghost use Rattle.cose_gate_program.specs.Writing.{Wrote, Spoke, Spoke-prop, Spoken};
+ghost use Rattle.cose_gate_program.specs.Writing.{Wrote, LinesWritten, LinesWritten-prop};
+ghost use Rattle.cose_gate_program.specs.Writing.{LentLines};
 
 use crate::beginning::NotBegun;
 use crate::devices::InputFault;
@@ -241,6 +242,14 @@ fn write_last<W: Write>(text: &[u8], out: &mut W)
     let _ = out.flush();
 }
 
+/// Hands on the lines that a writer holds back.
+pub fn hand_on<W: Write>(out: &mut W)
+    ensures { (begun : Log W) (told : Log Notice) → LinesWritten W.Write begun out.old told
+        → LinesWritten W.Write begun out.new told }
+{
+    let _ = out.flush();
+}
+
 /// The lines that `run` tells of, on a writer.
 #[derive(Drop)]
 pub(crate) struct Lines<'a, W: Write> {
@@ -248,7 +257,7 @@ pub(crate) struct Lines<'a, W: Write> {
     /// What was told, and what the writer was at first. It is in contracts alone.
     told: &'a mut Log<Notice>,
     begun: Log<W>,
-    ghost wrote: { Spoke W.Write begun out.now told.now } by { Spoke-prop W.Write _ _ _ },
+    ghost wrote: { LinesWritten W.Write begun out.now told.now } by { LinesWritten-prop W.Write _ _ _ },
 }
 
 impl<'a, W: Write> Lines<'a, W> {
@@ -266,8 +275,8 @@ impl<'a, W: Write> Lines<'a, W> {
 
 /// Writes the line of a notice, and adds it to a log of what was told.
 pub fn write_logged<W: Write>(notice: &Notice, out: &mut W, told: &mut Log<Notice>)
-    ensures wrote { (begun : Log W) → Spoke W.Write begun out.old told.old
-        → Spoke W.Write begun out.new told.new }
+    ensures wrote { (begun : Log W) → LinesWritten W.Write begun out.old told.old
+        → LinesWritten W.Write begun out.new told.new }
     ensures told { told.new.items ≡ told.old.items ++ notice.now ∷ [] }
 {
     write_notice(notice, out);
@@ -275,7 +284,7 @@ pub fn write_logged<W: Write>(notice: &Notice, out: &mut W, told: &mut Log<Notic
 }
 
 impl<'a, W: Write> Teller for Lines<'a, W> {
-    ghost State = { Spoken W };
+    ghost State = { LentLines W };
 
     ghost state = { λ l. record {
       name = l.out.ghost_name;
@@ -287,5 +296,9 @@ impl<'a, W: Write> Teller for Lines<'a, W> {
 
     fn tell(&mut self, notice: &Notice) {
         write_logged(notice, self.out, self.told);
+    }
+
+    fn rest(&mut self) {
+        hand_on(self.out);
     }
 }

@@ -1,4 +1,4 @@
-//! Tags that were fed nothing yet.
+//! HMACs in the making, which were fed nothing yet.
 ghost use Rattle.std.specs.Prelude.{[], option_copied};
 ghost use Rattle.cose_gate_core.specs.HeaderView.{header_view, protected_view};
 ghost use Rattle.cose_gate_core.specs.Lent.{subject_of};
@@ -13,7 +13,7 @@ use crate::verdict::may_judge;
 use cose_gate_core::{About, Header, MessageKind, ProtectedHeader};
 use cose_hmac::HmacSha256;
 
-/// The tag under a secret, fed nothing yet.
+/// An HMAC under a secret, which was fed nothing yet; none without a secret.
 pub(crate) fn mac_under(secret: Option<&[u8]>) -> Option<HmacSha256>
     ensures { Makes result (option_copied secret.entry) [] }
 {
@@ -23,7 +23,8 @@ pub(crate) fn mac_under(secret: Option<&[u8]>) -> Option<HmacSha256>
     }
 }
 
-/// The tag of a COSE_Mac0 with these headers, fed nothing yet.
+/// An HMAC for the tag of a COSE_Mac0 with these headers, which was fed nothing yet; none if the
+/// headers or the keys bar it.
 fn mac_for(
     index: &KeyIndex,
     protected: &ProtectedHeader,
@@ -41,7 +42,8 @@ fn mac_for(
     }
 }
 
-/// The tag of a message, fed nothing yet; none if it is no COSE_Mac0, or no key fits.
+/// An HMAC for the tag of a message, which was fed nothing yet; none if it is no COSE_Mac0, or no
+/// key fits.
 pub(crate) fn mac_about(index: &KeyIndex, about: &About) -> Option<HmacSha256>
     ensures { Makes result (spec.secret_about (key_set_view index.now.set.now)
         (subject_of about.now)) [] }

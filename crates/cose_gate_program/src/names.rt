@@ -1,4 +1,4 @@
-//! Entries of registries that a tag turns on.
+//! The registry entries that decide whether a tag can be good.
 ghost use Rattle.std.specs.Prelude.{◌≡◌, map, option_map};
 ghost use Rattle.std.specs.List.{list_all, list_any};
 ghost use Rattle.cose_iana.specs.Algorithms.{algorithm_number};

@@ -5,7 +5,7 @@ ghost use Rattle.cose_hmac.specs.View.{Holds};
 
 use cose_hmac::HmacSha256;
 
-/// A secret, and the tag under it, fed nothing yet.
+/// A secret, and an HMAC under it which was fed nothing yet.
 #[derive(Drop)]
 pub(crate) struct PreparedSecret<'a> {
     pub(crate) secret: &'a [u8],
@@ -24,7 +24,7 @@ impl<'a> PreparedSecret<'a> {
         }
     }
 
-    /// The tag under the secret, fed nothing yet.
+    /// An HMAC under the secret, which was fed nothing yet.
     pub(crate) fn mac(&self) -> HmacSha256
         ensures { Holds result self.now.secret.now [] }
     {

@@ -1,22 +1,99 @@
 //! The program: the gate over one input, a line for each item, and one that says how it ended.
-ghost use Rattle.std.specs.Prelude.{◌≡◌, Some, option_copied};
+ghost use Rattle.std.specs.Prelude.{◌≡◌, ◌+◌, ◌<◌, ◌^◌, [], None, Some, option_copied, IsOk};
+ghost use Rattle.std.specs.Io.KnownBytes.{Keeps};
+ghost use Rattle.ciborium_ll.specs.Device.{write_failures};
+ghost use Rattle.ciborium_ll.specs.Views.{left_of, offset_of, reader_of, waiting_of};
+ghost use Rattle.cose_gate_core.specs.Calls.{rules_by, sight_of};
 ghost use Rattle.cose_gate_core.specs.Findings.{usual};
+ghost use Rattle.cose_gate_core.specs.Outcome.{reader_failures, writer_failures};
 ghost use Rattle.cose_gate_core.specs.Terms.{limits_of};
 ghost use Rattle.cose_gate_program.specs.Beginning.{aad_of};
 ghost use Rattle.cose_gate_program.specs.Judge.{says_yes};
+ghost use Rattle.cose_gate_program.specs.Live.{EndsLive, reports_to};
 ghost use Rattle.cose_gate_program.specs.Program.{devices_of, hears};
 ghost use Rattle.cose_gate_program.specs.Telling as spec;
 ghost use Rattle.cose_gate_program.specs.Telling.{Gated, RanTold, EndsTold, tells, writes};
 
 use crate::beginning::{begin, read_keys};
-use crate::devices::{Input, InputFault, Output};
+use crate::devices::{Input, InputFault, Output, OutputFault};
 use crate::judge::HmacJudge;
 use crate::lines::{Lines, write_notice};
 use crate::telling::{Notice, Teller, Told};
+use crate::whole::is_whole;
 use ciborium_ll::log::Log;
 use ciborium_ll::{Decoder, Read, Write};
-use cose_gate_core::{Counts, GateFault, Judge, Limits, Terms, gate_by};
+use cose_gate_core::{Counts, GateFault, ItemTerms, Judge, Limits, Terms, gate_next};
 use std::alloc::Global;
+
+/// Hands on what passed, and then what is told of it, unless the next item is at hand as a whole.
+///
+/// # Errors
+/// The output can't be flushed. The teller holds back what it held then.
+fn hand_over<R: Read, W: Write, T: Teller>(
+    decoder: &Decoder<R>,
+    out: &mut W,
+    teller: &mut T,
+) -> Result<(), OutputFault>
+    ensures written { Keeps (W.written out.old) (W.written out.new) }
+    ensures failed { W.failed out.new ≡ write_failures result (W.failed out.old) }
+    ensures kept { W.handle out.new ≡ W.handle out.old }
+    ensures told { T.state teller.new ≡ T.state teller.old }
+{
+    if is_whole(decoder.held()) {
+        return Ok(());
+    }
+    if out.flush().is_err() {
+        return Err(OutputFault);
+    }
+    teller.rest();
+    Ok(())
+}
+
+/// The gate as `gate_by`, but what passed, and then what is told of it, is handed on after each
+/// item, unless the next one is at hand as a whole.
+fn gate_live<R: Read, W: Write, T: Teller, J: Judge>(
+    alloc: Global,
+    terms: Terms,
+    aad: &[u8],
+    decoder: &mut Decoder<R>,
+    out: &mut W,
+    report: &mut Told<'_, T>,
+    judge: &mut J,
+) -> Result<Counts, GateFault<R::Error>>
+    requires { waiting_of decoder.old ≡ None }
+    ensures ran { EndsLive R.ends
+        (rules_by (limits_of terms) (reports_to T.Teller) J.Judge judge.old aad.now)
+        (sight_of R.Read W.Write (reports_to T.Teller) J.Judge
+        decoder.old out.old report.old judge.old)
+        (sight_of R.Read W.Write (reports_to T.Teller) J.Judge
+        decoder.new out.new report.new judge.new) result }
+    ensures nothing { left_of R.left decoder.old ≡ Some []
+        → R.failed (reader_of decoder.new) ≡ R.failed (reader_of decoder.old)
+        → offset_of decoder.old + 4096 < 2 ^ 64 → IsOk result }
+    ensures reader { R.failed (reader_of decoder.new)
+        ≡ R.failed (reader_of decoder.old) + reader_failures R.ends result }
+    ensures writer { W.failed out.new ≡ W.failed out.old + writer_failures result }
+    ensures who { J.who judge.new ≡ J.who judge.old }
+    ensures kept { R.handle (reader_of decoder.new) ≡ R.handle (reader_of decoder.old) }
+    ensures lent { W.handle out.new ≡ W.handle out.old }
+    ensures fresh { waiting_of decoder.new ≡ None }
+{
+    let mut counts = Counts {
+        passed: 0,
+        refused: 0,
+    };
+    'items: loop {
+        let item = ItemTerms { terms, aad, counts };
+        let Some(next) = gate_next(alloc, item, decoder, out, report, judge)? else {
+            return Ok(counts);
+        };
+        counts = next;
+        match hand_over(decoder, out, report.teller) {
+            Ok(()) => {}
+            Err(_) => return Err(GateFault::Write),
+        }
+    }
+}
 
 /// The gate over input and output with small faults, told item by item.
 fn gate_told<R: Read, W: Write, T: Teller, J: Judge>(
@@ -39,22 +116,22 @@ fn gate_told<R: Read, W: Write, T: Teller, J: Judge>(
     let mut decoder = Decoder::from(Input { reader: input });
     let mut output = Output { writer: out };
     let mut report = Told { teller };
-    gate_by(
+    gate_live(
         alloc,
         terms,
+        aad,
         &mut decoder,
         &mut output,
         &mut report,
-        aad,
         judge,
     )
 }
 
 /// The program's run with any judge: the gate over the input by these terms, with `aad` as external
-/// data. The messages that passed go to `out`, which is flushed, and on `err` there are the lines
-/// that `run` tells of. The judge is asked about the items in order: about all of them if the
-/// status is 0 or 1, and with 4 about all up to where the run stopped; if out of memory at an item,
-/// it may be asked in part about that one.
+/// data. The messages that passed go to `out`, and on `err` there are the lines that `run` tells
+/// of; both are flushed as with `run`. The judge is asked about the items in order: about all of
+/// them if the status is 0 or 1, and with 4 about all up to where the run stopped; if out of memory
+/// at an item, it may be asked in part about that one.
 ///
 /// The status is 0 if no item was refused, 1 if some were, and 4 if the gate stopped or it is out
 /// of memory.
@@ -214,18 +291,21 @@ pub fn run_with<R: Read, W: Write, E: Write>(
 
 /// Runs the gate over the input with the judge by HMAC: `keys` are the bytes of KEYS, which hold a
 /// key set, or none if they can't be read, and `aad` is AADHEX, the external data in hex of either
-/// case; without it they are empty. The messages that passed go to `out`, which is flushed.
+/// case; without it they are empty. The messages that passed go to `out`.
 ///
 /// On `err` there is a line for each item, `item N at OFFSET: passed` or `item N at OFFSET:
 /// refused: NAME`, and then `passed P, refused R`, or `stopped: decode: WORD`, `stopped: write` or
 /// `stopped: memory`. If the gate isn't run, the one line is `keys: cannot be read`, `aad: not
 /// hex`, `keys: ` and what is wrong with the key set, or `stopped: memory`; these are tested in
-/// this order. Lines are written as the items come, and flushed at the end; a fault of `err` is
-/// ignored.
+/// this order. A fault of `err` is ignored.
+///
+/// What passed, and then its line, is flushed before more input may be waited for: after each item,
+/// unless the bytes that the reader holds have the whole next one, or are 4,096 or more. Both are
+/// flushed at the end too.
 ///
 /// The status is 0 if no item was refused, 1 if some were, 2 if AADHEX is no hex, 3 if there is no
 /// key set, and 4 if the gate stopped or it is out of memory. A flush that fails is `stopped:
-/// write`, whatever stopped the gate before.
+/// write`, after the lines of all items before it, whatever stopped the gate before.
 pub fn run<R: Read, W: Write, E: Write>(
     alloc: Global,
     keys: Option<&[u8]>,

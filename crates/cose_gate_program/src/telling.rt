@@ -1,6 +1,6 @@
 //! What is told of a run, and who is told.
 ghost use Rattle.std.specs.Prelude.{◌≡◌, ℕ};
-ghost use Rattle.cose_gate_program.specs.Heard.{Heard};
+ghost use Rattle.cose_gate_program.specs.LentTeller.{LentTeller};
 ghost use Rattle.cose_gate_program.specs.declared.telling.Notice.{Notice};
 ghost use Rattle.cose_gate_program.specs.declared.telling.Notice.TheVariants.{Item};
 
@@ -37,6 +37,11 @@ pub trait Teller {
     /// Takes the next notice.
     fn tell(&mut self, notice: &Notice)
         ensures { state self.new ≡ folded (state self.old) notice.now };
+
+    /// Hands on what it holds back: more input may be waited for. What it keeps stays.
+    fn rest(&mut self)
+        ensures { state self.new ≡ state self.old }
+    {}
 }
 
 /// A report that hands each item on.
@@ -46,7 +51,7 @@ pub(crate) struct Told<'a, T> {
 }
 
 impl<'a, T: Teller> Report for Told<'a, T> {
-    ghost State = { Heard T.State };
+    ghost State = { LentTeller T.State };
 
     ghost state = { λ t. record { name = t.teller.ghost_name; state = T.state t.teller.now } };
 

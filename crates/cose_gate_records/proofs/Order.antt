@@ -21,7 +21,7 @@ then_assoc Less b c = refl
 then_assoc Equal b c = refl
 then_assoc Greater b c = refl
 
--- what was told first stays, and what was not is told by the rest
+-- an order that is decided stays; one that is not is decided by what follows
 decided : (o x : Ordering) → is_ne o ≡ true → ordering_then o x ≡ o
 decided Less x h = refl
 decided Equal x h = grind (arith, h)
@@ -78,7 +78,7 @@ pub told_by_covered : (key rest more front covered signature : List ℕ) (o p : 
 told_by_covered key rest more front covered signature o p eq tells ne then =
     sym (behind_front key rest front covered signature o eq tells ∙ (then (framed signature) ∙ decided p (bytes_cmp more (framed signature)) ne))
 
--- against nothing the length tells
+-- compared with an empty list, the length decides
 to_nothing : (text : List ℕ) → bytes_cmp text [] ≡ nat_cmp (length text) 0
 to_nothing [] = refl
 to_nothing (x ∷ xs) = grind (arith, nat_tests)

@@ -5,7 +5,7 @@ use Rattle.cose_gate_core.specs.Asked.{folded_over}
 use Rattle.cose_gate_program.specs.Lines.{line_of, lines_of}
 use Rattle.cose_gate_program.specs.declared.telling.Notice.{Notice}
 use Rattle.cose_gate_program.proofs.Tellings.{folded_then}
-use Rattle.cose_gate_records.specs.Lines.{IsShown, counted, stopped, AreHeld, AreCut, Said}
+use Rattle.cose_gate_records.specs.Lines.{IsShown, counted, stopped, AreLinesWithLast, AreLinesThenMemory, Said}
 
 abbrev says : Said → Notice → Said
 says s notice = record { name = s.name; text = s.text ++ line_of notice; last = counted s.text }
@@ -37,9 +37,9 @@ module _ (s s' : Said) (ns : List Notice) (e : s' ≡ folded_over says s ns) whe
       ∙ (last_line s done last ∙ ap (λ (z : List ℕ). counted (z ++ lines_of done)) none)
 
 -- the last line was replaced
-pub cut_last : (old new : List ℕ) (last end count : ℕ) (ns : List Notice) (n : Notice) → AreHeld old last end (ns ++ n ∷ [])
+pub cut_last : (old new : List ℕ) (last end count : ℕ) (ns : List Notice) (n : Notice) → AreLinesWithLast old last end (ns ++ n ∷ [])
     → ((before rest : List ℕ) → last ≡ counted before → IsShown (before ++ rest) old → IsShown (before ++ stopped) new)
-    → ((before : List ℕ) → last ≡ counted before → count ≡ counted (before ++ stopped)) → AreCut new count (ns ++ n ∷ [])
+    → ((before : List ℕ) → last ≡ counted before → count ≡ counted (before ++ stopped)) → AreLinesThenMemory new count (ns ++ n ∷ [])
 cut_last old new last end count ns n held shown all =
     let at : last ≡ counted (lines_of ns) = held.1 ns n refl in
     let there : IsShown (lines_of ns ++ lines_of (n ∷ [])) old = subst (λ (z : List ℕ). IsShown z old) (flat_map-append line_of ns (n ∷ [])) held.0.0 in

@@ -9,7 +9,7 @@ use Rattle.cose_gate_program.specs.Telling.{RanTold, EndsTold}
 use Rattle.cose_gate_program.specs.declared.telling.Notice.{Notice}
 use Rattle.cose_gate_records.specs.Framing.{framed}
 use Rattle.cose_gate_records.specs.Records.{is_among, record_of}
-use Rattle.cose_gate_records.specs.Lines.{AreLines, AreLinesOf, AreCut, no_records, stopped}
+use Rattle.cose_gate_records.specs.Lines.{AreLines, AreLinesOf, AreLinesThenMemory, no_records, stopped}
 use Rattle.cose_gate_records.specs.declared.answer.Answer.{Answer}
 
 -- so many levels and layers; a strict gate passes only what is already as it would be written
@@ -37,7 +37,7 @@ NoMemory written status = (written ≡ []) × (status ≡ 4)
 abbrev pub IsCut : Bounds → (Question → Bool) → List ℕ → List ℕ → List ℕ → ℕ → Type 0
 IsCut limits allows aad input lines count =
     (old : Devices) × (new : Devices) × (status : ℕ) × (old.left ≡ Some input)
-    × RanTold limits allows aad old new status (λ _. Unit {0}) (AreCut lines count)
+    × RanTold limits allows aad old new status (λ _. Unit {0}) (AreLinesThenMemory lines count)
 
 -- the output is in front of what was there, if it is no longer; else there is no space, and nothing
 -- was written
@@ -70,7 +70,7 @@ Checked limits keys aad input lines count written status =
     Runs limits keys aad input lines count written status
     ⊎ (NoMemory written status × ((new : Devices) × (ended : ℕ)
     × EndsTold limits says_yes (Some keys) (Some aad) (devices (Some input) (Some [])) new ended
-    (AreCut lines count)))
+    (AreLinesThenMemory lines count)))
 
 abbrev pub Checks : ℕ → ℕ → Bool → List ℕ → List ℕ → List ℕ → Buffers → Buffers → Answer → Type 0
 Checks nesting layers strict keys aad input old new answer =

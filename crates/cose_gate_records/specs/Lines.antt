@@ -32,15 +32,15 @@ AreLines text buffer count = IsShown text buffer × (count ≡ counted text)
 abbrev pub AreLinesOf : List ℕ → ℕ → List Notice → Type 0
 AreLinesOf buffer count notices = AreLines (lines_of notices) buffer count
 
--- the same, and the last one begins here
-abbrev pub AreHeld : List ℕ → ℕ → ℕ → List Notice → Type 0
-AreHeld buffer last count notices = AreLinesOf buffer count notices
+-- the same, and the last line begins at `last`
+abbrev pub AreLinesWithLast : List ℕ → ℕ → ℕ → List Notice → Type 0
+AreLinesWithLast buffer last count notices = AreLinesOf buffer count notices
     × ((done : List Notice) (notice : Notice) → notices ≡ done ++ notice ∷ []
     → last ≡ counted (lines_of done))
 
 -- the lines of all but the last of these notices, and then that it is out of memory
-abbrev pub AreCut : List ℕ → ℕ → List Notice → Type 0
-AreCut buffer count notices = (done : List Notice) × (last : Notice)
+abbrev pub AreLinesThenMemory : List ℕ → ℕ → List Notice → Type 0
+AreLinesThenMemory buffer count notices = (done : List Notice) × (last : Notice)
     × (notices ≡ done ++ last ∷ []) × AreLines (lines_of done ++ stopped) buffer count
 
 -- what lines in a buffer that is lent keep: all of their text, and where the last one begins

@@ -15,7 +15,7 @@ pub struct Answer {
     pub lines: usize,
 }
 
-/// Limits that no caller may choose.
+/// The answer to limits that no caller may choose.
 pub(crate) fn no_limits() -> Answer
     ensures status { result.status ≡ 2 }
     ensures length { result.length ≡ 0 }

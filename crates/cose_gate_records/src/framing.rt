@@ -60,8 +60,8 @@ pub(crate) fn split(alloc: Global, bytes: &[u8]) -> Result<Option<Vec<&[u8]>>, A
     Ok(Some(pieces))
 }
 
-/// The order of the bytes `text` and any bytes that begin with `front`, if they tell it; else what
-/// of `text` is after as many.
+/// How `text` compares with any bytes that begin with `front`: the order, if `front` decides it,
+/// and else equal; and what of `text` comes after as many bytes as `front` has.
 pub(crate) fn order_to<'a>(text: &'a [u8], front: &[u8]) -> (Ordering, &'a [u8])
     ensures { (more : List ℕ) → bytes_cmp text.now (front.now ++ more)
         ≡ ordering_then result.0 (bytes_cmp result.1.now more) }
@@ -70,8 +70,7 @@ pub(crate) fn order_to<'a>(text: &'a [u8], front: &[u8]) -> (Ordering, &'a [u8])
     (head.cmp(&front), rest)
 }
 
-/// The order of the bytes `text` and any bytes that begin with the framed piece, if they tell it;
-/// else what of `text` is after as many.
+/// As `order_to`, of any bytes that begin with the framed piece.
 pub(crate) fn order_to_framed<'a>(text: &'a [u8], piece: &[u8]) -> (Ordering, &'a [u8])
     ensures { (more : List ℕ) → bytes_cmp text.now (framed piece.now ++ more)
         ≡ ordering_then result.0 (bytes_cmp result.1.now more) }

@@ -1,4 +1,4 @@
-//! Bytes that grow.
+//! A writer into memory that grows.
 ghost use Rattle.std.specs.Prelude.{◌≡◌, ◌+◌, [], false};
 ghost use Rattle.cose_gate_records.specs.Growing.{text_of, times, failures_of, is_refused};
 
@@ -6,12 +6,12 @@ use ciborium_ll::Write;
 use ciborium_ll::count::Count;
 use std::alloc::{AllocError, Global};
 
-/// How often it was out of memory.
+/// How often memory ran out.
 #[derive(Drop)]
 pub(crate) enum Refusals {
-    /// It never was.
+    /// Memory never ran out.
     Never,
-    /// Once, and then as often as this counts.
+    /// Memory ran out once, and then as often again as this counts.
     AndThen(Count),
 }
 
@@ -41,7 +41,7 @@ impl Growing {
         &self.text
     }
 
-    /// Whether it was out of memory.
+    /// Whether memory ever ran out.
     pub fn is_refused(&self) -> bool
         ensures answer { result ≡ is_refused self.now }
         ensures never { result ≡ false → failures_of self.now ≡ 0 }
@@ -50,7 +50,7 @@ impl Growing {
     }
 }
 
-/// The count of one more.
+/// The count if memory ran out once more.
 fn one_more(refusals: &Refusals) -> Refusals
     ensures { times result ≡ times refusals.now + 1 }
 {

@@ -26,7 +26,8 @@ fn key_protected<'a>(about: &About<'a>) -> &'a ProtectedHeader
     }
 }
 
-/// The unprotected header beside it.
+/// The unprotected header that names the key: that of the signer if there is one, else the
+/// message's.
 fn key_unprotected<'a>(about: &About<'a>) -> &'a Header
     ensures { header_view result.now ≡ key_unprotected (subject_of about.now) }
 {

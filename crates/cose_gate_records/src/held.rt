@@ -67,7 +67,7 @@ impl Held {
         Ok(key)
     }
 
-    /// The order of this key and that of the question with this signature, which is not built.
+    /// How this key compares with the key of the question with this signature, which is not built.
     pub(crate) fn order(&self, key: &[u8], signature: &[u8]) -> Ordering
         ensures { result ≡ bytes_cmp key.now
             (key_by self.now.front.items self.now.covered.items signature.now) }

@@ -3,8 +3,8 @@ ghost use Rattle.std.specs.Prelude.{◌≡◌, ◌<◌, ◌^◌, length};
 ghost use Rattle.cose_gate_core.specs.Questions.{Question};
 ghost use Rattle.cose_gate_records.specs.Records.{key_of, texts_of};
 
-/// A key is that of one question, as far as its parts, its covered bytes and its signature go: the
-/// headers themselves are read from the parts.
+/// Two questions with one key have the same kind, the same encoded headers and recipients, the same
+/// covered bytes and the same signature.
 pub fn one_key()
     ensures { (q r : Question) → length (key_of q) < 2 ^ 64 → key_of q ≡ key_of r
         → (q.subject.kind ≡ r.subject.kind) × (texts_of q.subject ≡ texts_of r.subject)

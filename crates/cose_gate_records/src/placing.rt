@@ -21,7 +21,8 @@ fn fill(out: &mut [u8], text: &[u8]) -> bool
     true
 }
 
-/// Hands out what a run wrote, with its status; or that it is too long.
+/// Puts what a run wrote into the caller's buffer, and returns its status and length; if it is too
+/// long the buffer stays, and the status says so.
 pub(crate) fn place(out: &mut [u8], text: &[u8], status: u8, lines: usize) -> Answer
     ensures length { result.length ≡ length text.now }
     ensures fits { length text.now ≤ length «out».old
@@ -45,7 +46,7 @@ pub(crate) fn place(out: &mut [u8], text: &[u8], status: u8, lines: usize) -> An
     }
 }
 
-/// Hands out that nothing was written.
+/// The answer, with this status, of a call that wrote no output.
 pub(crate) fn place_none(out: &mut [u8], status: u8, lines: usize) -> Answer
     ensures length { result.length ≡ 0 }
     ensures status { result.status ≡ status }

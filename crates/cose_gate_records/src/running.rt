@@ -4,7 +4,7 @@ ghost use Rattle.cose_gate_core.specs.Terms.{limits_of};
 ghost use Rattle.cose_gate_program.specs.Judge.{says_yes};
 ghost use Rattle.cose_gate_program.specs.Program.{devices_of, hears};
 ghost use Rattle.cose_gate_program.specs.Telling.{EndsTold, RanTold};
-ghost use Rattle.cose_gate_records.specs.Lines.{AreHeld};
+ghost use Rattle.cose_gate_records.specs.Lines.{AreLinesWithLast};
 
 use crate::lines::Lines;
 use ciborium_ll::{Read, Write};
@@ -33,7 +33,7 @@ pub(crate) fn run_with_keys<R: Read, W: Write>(
     ensures { EndsTold (limits_of terms) says_yes (Some keys.now) (Some aad.now)
         (devices_of R.Read W.Write input.old out.old)
         (devices_of R.Read W.Write input.new out.new) result.status
-        (AreHeld «lines».new result.last result.end) }
+        (AreLinesWithLast «lines».new result.last result.end) }
 {
     let mut told = Lines::new(lines);
     let status = run_over_told(alloc, terms, keys, aad, input, out, &mut told);
@@ -57,7 +57,7 @@ pub(crate) fn run_with_judge<R: Read, W: Write, J: Judge>(
     ensures { RanTold (limits_of terms) (J.yes (J.who judge.old)) aad.now
         (devices_of R.Read W.Write input.old out.old)
         (devices_of R.Read W.Write input.new out.new) result.status
-        (hears J.Judge judge.old judge.new) (AreHeld «lines».new result.last result.end) }
+        (hears J.Judge judge.old judge.new) (AreLinesWithLast «lines».new result.last result.end) }
 {
     let mut told = Lines::new(lines);
     let status = run_told(alloc, terms, aad, input, out, &mut told, judge);

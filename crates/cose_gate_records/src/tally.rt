@@ -4,7 +4,7 @@ ghost use Rattle.cose_gate_records.specs.Lines.{counted};
 
 use ciborium_ll::log::Log;
 
-/// How long all is that was written. What it is is in contracts alone.
+/// The length of all that was written. Which bytes these were only contracts say.
 #[derive(Drop)]
 pub(crate) struct Tally {
     pub(crate) end: usize,
@@ -15,7 +15,7 @@ pub(crate) struct Tally {
 impl Tally {
     ghost use Rattle.cose_gate_records.specs.Tallies.{all_of};
 
-    /// Nothing yet.
+    /// A tally of nothing.
     pub(crate) fn new() -> Tally
         ensures { all_of result ≡ [] }
     {
@@ -25,7 +25,7 @@ impl Tally {
         }
     }
 
-    /// A text more.
+    /// The tally with this text after what was written.
     pub(crate) fn and(self, text: &[u8]) -> Tally
         ensures { all_of result ≡ all_of self ++ text.now }
     {

@@ -8,10 +8,10 @@ use crate::held::Held;
 use ciborium_ll::log::Log;
 use std::alloc::{AllocError, Global};
 
-/// The records so far, or, if out of memory for one, nothing but what proofs say of them.
+/// The records so far, or, once memory ran out for one, their history, which only proofs read.
 #[derive(Drop)]
 pub(crate) enum Text {
-    /// All of them.
+    /// The records of all questions so far.
     Whole(Vec<u8>),
     /// Out of memory.
     Lost(Log<u8>),

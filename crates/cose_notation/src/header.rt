@@ -30,7 +30,7 @@ pub struct Scope {
 }
 
 impl Scope {
-    /// That of this map.
+    /// The scope of this map.
     ///
     /// # Errors
     /// `Memory`.

@@ -2,11 +2,14 @@
 //! beside the item.
 use crate::line::write_shown;
 use crate::look::Look;
-use crate::parts::{is_bytes, joined};
+use crate::parts::{integer, is_bytes, joined};
 use crate::secrets::holds_secret;
 use cbor_diag::{Page, Style, write_hex};
 use std::alloc::Global;
 use std::fmt;
+
+/// The greatest integer that each reader of JSON takes as it is, 2^53 - 1 (RFC 8259, section 6).
+const GREATEST: i64 = 9_007_199_254_740_991;
 
 /// What is between the quotes of a JSON text.
 #[derive(Drop)]
@@ -73,6 +76,16 @@ pub fn write_length<P: fmt::Write>(alloc: Global, item: &[u8], page: &mut Page<'
     if is_bytes(item) {
         if let Some(bytes) = page.kept(joined(alloc, item)) {
             write!(page, ",\"length\":{}", bytes.len());
+        }
+    }
+}
+
+/// Writes a member with the number that an integer is, from -(2^53 - 1) to 2^53 - 1; nothing of
+/// another item.
+pub fn write_number<P: fmt::Write>(item: &[u8], page: &mut Page<'_, P>) {
+    if let Some(number) = integer(item) {
+        if (-GREATEST..=GREATEST).contains(&number) {
+            write!(page, ",\"number\":{number}");
         }
     }
 }

@@ -1,5 +1,5 @@
 //! Keys as members of a JSON object.
-use crate::json::{write_length, write_name, write_notation, write_word};
+use crate::json::{write_length, write_name, write_notation, write_number, write_word};
 use crate::key_labels::{KeyLabel, KeyPart, key_label};
 use crate::keys::{Keys, name_of, operation_name};
 use crate::look::Look;
@@ -113,6 +113,7 @@ fn write_value<P: fmt::Write>(
     }
     write_name("value", page);
     write_notation(alloc, look, value, page);
+    write_number(value, page);
     if let Some(name) = name_of(known.part, value) {
         write_word("value_name", name, page);
     }

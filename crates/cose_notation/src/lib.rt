@@ -23,7 +23,7 @@ pub use crate::keys::{Keys, keys_in, show_keys};
 pub use crate::line::{begin_line, write_len, write_shown, write_string};
 pub use crate::look::Look;
 pub use crate::members::write_message;
-pub use crate::message::{Form, Part, is_message, message_of, show_message};
+pub use crate::message::{Form, Part, is_message, lacks_tag, message_of, show_message};
 pub use crate::names::{algorithm, key_operation, key_type, parameter};
 pub use crate::parts::{Members, entries, integer, is_bytes, items, joined};
 pub use crate::secrets::may_hold_secrets;

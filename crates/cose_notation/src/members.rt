@@ -1,6 +1,8 @@
 //! A message as members of a JSON object.
 use crate::header::{Labels, Scope, name_of as label_name, value_name};
-use crate::json::{write_hex_text, write_length, write_name, write_notation, write_word};
+use crate::json::{
+    write_hex_text, write_length, write_name, write_notation, write_number, write_word,
+};
 use crate::look::Look;
 use crate::message::{Form, Part, message_of, name_of};
 use crate::parts::{Members, entries, integer, is_bytes, is_null, is_one_item, items, joined};
@@ -136,6 +138,7 @@ fn write_entry<P: fmt::Write>(
     }
     write_name("value", page);
     write_notation(alloc, look, value, page);
+    write_number(value, page);
     if let Some(name) = value_name(scope.labels, number, integer(value)) {
         write_word("value_name", name, page);
     }

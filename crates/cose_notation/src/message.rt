@@ -2,9 +2,9 @@
 use crate::header::{show_map, show_protected};
 use crate::line::{begin_line, write_shown, write_string};
 use crate::look::Look;
-use crate::parts::{Members, header_of, is_bytes, is_null, items, joined, tagged};
+use crate::parts::{Members, entries, header_of, is_bytes, is_null, items, joined, tagged};
 use crate::payload::show_payload;
-use cbor_diag::Page;
+use cbor_diag::{NotWritten, Page};
 use ciborium_ll::Header;
 use std::alloc::Global;
 use std::fmt;
@@ -12,7 +12,7 @@ use std::fmt;
 /// The tag of a CBOR Web Token (RFC 8392, section 6).
 const CWT: u64 = 61;
 
-/// What a message's parts after its headers are.
+/// A kind of message, by its name and the parts after its headers.
 #[derive(Debug, Clone, Copy, PartialEq, Eq)]
 pub struct Form {
     /// Its name.
@@ -89,6 +89,31 @@ pub fn message_of(item: &[u8]) -> Option<(Form, u64, &[u8])> {
         other => other,
     };
     Some((form_of(tag)?, tag, content))
+}
+
+/// Whether an item is an array of the parts of a COSE_Sign1, which are those of a COSE_Mac0 too:
+/// only the tag tells which it is (RFC 9052, section 2).
+///
+/// # Errors
+/// `Memory`.
+pub fn lacks_tag(alloc: Global, item: &[u8]) -> Result<bool, NotWritten> {
+    let Some(mut parts) = items(alloc, item) else {
+        return Ok(false);
+    };
+    let (protected, unprotected) = (parts.next()?, parts.next()?);
+    let (payload, last) = (parts.next()?, parts.next()?);
+    if parts.next()?.is_some() {
+        return Ok(false);
+    }
+    match (protected, unprotected, payload, last) {
+        (Some(protected), Some(map), Some(payload), Some(last)) => Ok(
+            is_bytes(protected)
+                && entries(alloc, map).is_some()
+                && (is_bytes(payload) || is_null(payload))
+                && is_bytes(last),
+        ),
+        _ => Ok(false),
+    }
 }
 
 /// Whether an item is a message whose parts can be shown.

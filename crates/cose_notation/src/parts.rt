@@ -13,7 +13,7 @@ pub struct Members<'a> {
 }
 
 impl<'a> Members<'a> {
-    /// The next one. Of bytes that are cut there is none.
+    /// The next item, key or value; none after the last, and none of bytes that are cut.
     ///
     /// # Errors
     /// `Memory`.

@@ -37,7 +37,7 @@ struct Signs {
 }
 
 impl Signs {
-    /// Of no entry.
+    /// The signs before any entry was seen.
     fn new() -> Signs {
         Signs {
             has_type: false,
@@ -167,7 +167,8 @@ pub fn is_open(alloc: Global, part: KeyPart, value: &[u8]) -> Result<bool, NotWr
 #[derive(Debug, Clone, Copy, PartialEq, Eq)]
 struct Entry {
     label: Label,
-    /// Where its label begins, and its value: at no byte before it is read.
+    /// Where its label begins, and where its value does, which is `usize::MAX` until the value is
+    /// read.
     label_at: usize,
     at: usize,
 }
@@ -180,7 +181,8 @@ struct Source {
     /// Where the byte string begins, and which source it is in.
     at: usize,
     parent: usize,
-    /// Whether it holds a key with a secret, of a registered type and of any.
+    /// Whether it holds a key with a secret that has a registered type, and whether it holds any
+    /// key with one.
     has_known: bool,
     has_any: bool,
     /// Whether it holds a secret.
@@ -211,8 +213,8 @@ struct Search<'a> {
     entries: Vec<Entry>,
     /// Where the secrets begin that are in no byte string, and the byte strings that hold others.
     hidden: Vec<usize>,
-    /// Of what is in no byte string: whether a label is below 0, and whether a map has a type that
-    /// doesn't end.
+    /// Of what is in no byte string: whether a label may be below 0, and whether a map with a type
+    /// is cut off.
     below_zero: bool,
     is_torn: bool,
 }
@@ -475,7 +477,8 @@ impl<'a> Search<'a> {
         Ok(())
     }
 
-    /// Hides the byte strings that hold secrets. What is in one comes after it.
+    /// Hides the byte strings that hold secrets, from the last to the first: a byte string inside
+    /// another one comes after it.
     fn hide_strings(&mut self) -> Result<(), NotWritten> {
         for back in 1..self.sources.len() {
             let number = self.sources.len().saturating_sub(back);

@@ -5,8 +5,8 @@
 
 use ciborium_ll::Io;
 use cose_gate_command::{
-    Content, NotRun, PassArguments, asks_for_help, asks_for_version, ended, pass, pass_arguments,
-    read_in_blocks, words_of, write_help, write_in_blocks,
+    Content, NotRun, asks_for_help, asks_for_version, ended, pass, pass_arguments, read_in_blocks,
+    words_of, write_help, write_in_blocks,
 };
 use cose_gate_program::{Blocks, has_stack};
 use std::process::ExitCode;
@@ -55,22 +55,27 @@ fn start(rt: &HostRuntime) -> Result<u8, NotRun> {
     if asks_for_version(words.as_slice()) {
         return write_help(VERSION, &mut rt.stdout());
     }
-    match pass_arguments(words.as_slice()) {
-        Some(arguments) => run(rt, arguments),
-        None => Err(NotRun::Usage),
+    let accepted = read_accepted(rt, words.as_slice())?;
+    run(rt, words.as_slice(), accepted)
+}
+
+/// What the file ACCEPTED holds, if the arguments name one.
+fn read_accepted(rt: &HostRuntime, words: &[String]) -> Result<Content, NotRun> {
+    match pass_arguments(words) {
+        Some(arguments) => Content::of_file(fs::read(rt, arguments.accepted)),
+        None => Ok(Content::none("")),
     }
 }
 
 /// Runs it over the file ACCEPTED and the standard streams.
-fn run(rt: &HostRuntime, arguments: PassArguments<'_>) -> Result<u8, NotRun> {
+fn run(rt: &HostRuntime, words: &[String], accepted: Content) -> Result<u8, NotRun> {
     let alloc = rt.alloc();
-    let accepted = Content::of_file(fs::read(rt, arguments.accepted))?;
     let input = read_in_blocks(alloc, rt.stdin())?;
     let mut output = write_in_blocks(alloc, rt.stdout())?;
     let mut lines = write_in_blocks(alloc, rt.stderr())?;
     let end = pass(
         alloc,
-        arguments,
+        words,
         accepted.bytes,
         &mut Blocks::new(input),
         &mut Io::new(&mut output),

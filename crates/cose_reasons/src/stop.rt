@@ -57,7 +57,7 @@ impl Stop {
         }
     }
 
-    /// What a fault in an item means that was read before.
+    /// Why the program ends at a fault in an item that could be read before.
     pub fn of_fault(fault: Fault, offset: usize) -> Stop {
         match fault.why {
             Why::Memory => Stop::Memory,

@@ -103,7 +103,7 @@ pub fn secret_or_reason<'b, P: fmt::Write>(
     None
 }
 
-/// The algorithm of the protected header isn't HMAC 256/256.
+/// Writes that the algorithm of the protected header isn't HMAC 256/256.
 fn write_other_alg<P: fmt::Write>(
     protected: &Option<Algorithm>,
     unprotected: &Option<Algorithm>,
@@ -134,7 +134,7 @@ fn write_alg<P: fmt::Write>(alg: &Algorithm, page: &mut Page<'_, P>) {
     }
 }
 
-/// A number, in front of which its registered name is.
+/// Writes a number after its registered name, if it has one.
 fn write_named<P: fmt::Write>(name: Option<&'static str>, number: i64, page: &mut Page<'_, P>) {
     match name {
         Some(name) => write!(page, "{name} ({number})"),
@@ -152,7 +152,7 @@ fn write_front<P: fmt::Write>(text: &str, page: &mut Page<'_, P>) {
     page.write_str("...");
 }
 
-/// A critical label isn't known.
+/// Writes which critical label isn't known.
 fn write_crit<P: fmt::Write>(name: &str, header: &Header, page: &mut Page<'_, P>) {
     write!(page, "crit of the {name} header has the label ");
     for label in &header.crit {
@@ -182,7 +182,7 @@ fn is_known(number: i64) -> bool {
     matches!(number, 1 | 2 | 4)
 }
 
-/// No key has the id of the message.
+/// Writes that no key has the id of the message.
 fn write_no_key<P: fmt::Write>(book: &KeyBook<'_>, id: &[u8], page: &mut Page<'_, P>) {
     if id.is_empty() {
         page.write_str("the message has no key id, and no key of the set is without one");
@@ -239,7 +239,7 @@ fn write_key_id<P: fmt::Write>(id: &[u8], page: &mut Page<'_, P>) {
     page.write_str(" ");
 }
 
-/// Why a key doesn't fit that has the id.
+/// Writes why a key that has the id doesn't fit.
 fn write_bar<P: fmt::Write>(key: &CoseKey, page: &mut Page<'_, P>) {
     match &key.kty {
         RegisteredLabel::Assigned(cose_iana::KeyType::Symmetric) => write_bar_of_secret(key, page),
@@ -255,7 +255,7 @@ fn write_bar<P: fmt::Write>(key: &CoseKey, page: &mut Page<'_, P>) {
     }
 }
 
-/// Why a symmetric key doesn't fit.
+/// Writes why a symmetric key doesn't fit.
 fn write_bar_of_secret<P: fmt::Write>(key: &CoseKey, page: &mut Page<'_, P>) {
     if secret_of(key).is_none() {
         page.write_str("has no secret (k)");

@@ -109,7 +109,7 @@ impl<'a, R: Files + AllocGlobal> Pieces<'a, R> {
     }
 }
 
-/// A file could not be written: what it holds back isn't tried again.
+/// Drops a file that could not be written, without writing again what it holds back.
 fn left<W: Write + Drop>(file: BufWriter<W>) -> Stop {
     let _ = file.into_parts();
     Stop::Piece

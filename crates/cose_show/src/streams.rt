@@ -38,7 +38,8 @@ pub fn read_keys<R: Files + AllocGlobal>(
     }
 }
 
-/// Shows the input on this output. What a flush that failed has left isn't written afterwards.
+/// Shows the input on this output, and returns the number of the first item at which the gate
+/// stops. What a flush that failed has left isn't written afterwards.
 ///
 /// # Errors
 /// Those of `show_as`, and `Output`.
@@ -48,7 +49,7 @@ pub fn show_on<I: io::Read + Drop, O: io::Write + Drop>(
     keys: Option<&[u8]>,
     input: BufReader<I>,
     mut output: BufWriter<O>,
-) -> Result<(), Stop> {
+) -> Result<Option<u64>, Stop> {
     let mut printer = Printer::new(&mut output);
     let shown = show_as(alloc, options, keys, input, &mut printer);
     let flushed = printer.flush();
@@ -118,7 +119,7 @@ mod tests {
     fn a_full_output(rt: HostRuntime) {
         let alloc = rt.alloc();
         let all = words(&rt, alloc, &[]);
-        for (room, end) in [(2, Err(Stop::Output)), (64, Ok(()))] {
+        for (room, end) in [(2, Err(Stop::Output)), (64, Ok(None))] {
             let mut memory = [0; 64];
             let input = BufReader::new(alloc, [7].as_slice()).expect(&rt, "memory");
             let output = BufWriter::new(alloc, &mut memory[..room]).expect(&rt, "memory");

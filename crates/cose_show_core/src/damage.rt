@@ -21,7 +21,7 @@ pub fn show_damage<R: io::Read + Drop, P: fmt::Write>(
     fault: Fault,
     source: &mut Source<R>,
     page: &mut Page<'_, P>,
-) -> Result<(), Stop> {
+) -> Result<Option<u64>, Stop> {
     source.hold(fault.at.saturating_add(AROUND))?;
     let offset = source.offset();
     let held = source.held();

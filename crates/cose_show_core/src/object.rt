@@ -2,20 +2,20 @@
 use crate::asking::{Answer, Asking};
 use crate::damage::{AROUND, around};
 use crate::shape::wrong_part;
-use crate::show::Request;
+use crate::show::{Item, Request};
 use crate::source::Source;
-use crate::verdict::{Ruling, Spelling, rule};
+use crate::verdict::{Ruling, Spelling, UNTAGGED, rule};
 use cbor_diag::{Fault, Page};
 use cose_gate_core::{Refusal, Verdict};
 use cose_notation::{
-    Look, keys_in, may_hold_secrets, write_hex_text, write_keys, write_message, write_name,
-    write_notation, write_word,
+    Look, keys_in, lacks_tag, may_hold_secrets, write_hex_text, write_keys, write_message,
+    write_name, write_notation, write_word,
 };
 use cose_reasons::Stop;
 use std::alloc::Global;
 use std::{fmt, io};
 
-/// Writes an item as one line.
+/// Writes an item as one line, and says whether the gate stops at it.
 ///
 /// # Errors
 /// `Output` and `Memory`.
@@ -23,21 +23,25 @@ pub fn write_object<P: fmt::Write>(
     alloc: Global,
     request: Request<'_>,
     asking: &mut Option<Asking<'_>>,
-    number: u64,
-    offset: usize,
-    item: &[u8],
+    item: Item<'_>,
     page: &mut Page<'_, P>,
-) -> Result<(), Stop> {
-    let len = item.len();
+) -> Result<bool, Stop> {
+    let (number, offset, len) = (item.number, item.offset, item.bytes.len());
     write!(
         page,
         "{{\"number\":{number},\"offset\":{offset},\"length\":{len},\"notation\":"
     );
-    write_content(alloc, request.look, item, page);
+    write_content(alloc, request.look, item.bytes, page);
     page.end()?;
-    write_ruling(alloc, request, asking, offset, item, page)?;
+    let stops = if item.stopped.is_some() {
+        write_word("gate", "not reached", page);
+        false
+    } else {
+        write_ruling(alloc, request, asking, item, page)?
+    };
     page.write_str("}\n");
-    Ok(page.end()?)
+    page.end()?;
+    Ok(stops)
 }
 
 /// The notation, and the members of keys or of a message.
@@ -61,7 +65,7 @@ pub fn write_damage<R: io::Read + Drop, P: fmt::Write>(
     fault: Fault,
     source: &mut Source<R>,
     page: &mut Page<'_, P>,
-) -> Result<(), Stop> {
+) -> Result<Option<u64>, Stop> {
     source.hold(fault.at.saturating_add(AROUND))?;
     let offset = source.offset();
     let held = source.held();
@@ -100,34 +104,51 @@ fn write_fault<P: fmt::Write>(
     page.write_str("}\n");
 }
 
-/// What the gate says, and what else was asked for.
+/// What the gate says, and what else was asked for; and whether the gate stops.
 fn write_ruling<P: fmt::Write>(
     alloc: Global,
     request: Request<'_>,
     asking: &mut Option<Asking<'_>>,
-    offset: usize,
-    item: &[u8],
+    item: Item<'_>,
     page: &mut Page<'_, P>,
-) -> Result<(), Stop> {
-    let ruling = rule(alloc, request.aad, item)?;
+) -> Result<bool, Stop> {
+    let Item { offset, bytes, .. } = item;
+    let ruling = rule(alloc, request.aad, bytes)?;
     write_verdict(&ruling, page);
-    if let Ok(Some(Verdict::Refused(Refusal::Shape(_)))) = &ruling.verdict {
-        write_wrong_part(alloc, item, page)?;
-    }
+    write_more(alloc, &ruling, bytes, page)?;
     if let Some(asking) = asking {
-        if let Some(answer) = asking.answer(alloc, request.aad, item, ruling.asked())? {
+        if let Some(answer) = asking.answer(alloc, request.aad, bytes, ruling.asked())? {
             write_answer(&answer, page);
         }
     }
     if request.strict {
-        if let Some(spelling) = ruling.spelling(alloc, item)? {
+        if let Some(spelling) = ruling.spelling(alloc, bytes)? {
             write_spelling(spelling, offset, page);
         }
     }
     if request.questions {
         write_questions(alloc, request.look, &ruling, page);
     }
-    Ok(())
+    Ok(ruling.verdict.is_err())
+}
+
+/// What is wrong in an item that is refused.
+fn write_more<P: fmt::Write>(
+    alloc: Global,
+    ruling: &Ruling,
+    item: &[u8],
+    page: &mut Page<'_, P>,
+) -> Result<(), Stop> {
+    match &ruling.verdict {
+        Ok(Some(Verdict::Refused(Refusal::Shape(_)))) => write_wrong_part(alloc, item, page),
+        Ok(Some(Verdict::Refused(Refusal::NotTagged))) => {
+            if lacks_tag(alloc, item)? {
+                write_word("untagged", UNTAGGED, page);
+            }
+            Ok(())
+        }
+        _ => Ok(()),
+    }
 }
 
 fn write_verdict<P: fmt::Write>(ruling: &Ruling, page: &mut Page<'_, P>) {

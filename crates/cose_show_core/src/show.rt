@@ -29,8 +29,21 @@ pub struct Request<'a> {
     pub aad: &'a [u8],
 }
 
-/// Shows all items of the input, as the options say. `keys` are the bytes of the file of keys, if
-/// the judge is to be asked.
+/// An item of the input.
+#[derive(Clone, Copy)]
+pub struct Item<'a> {
+    /// From 1.
+    pub number: u64,
+    /// Where it begins in the input.
+    pub offset: usize,
+    /// All of it.
+    pub bytes: &'a [u8],
+    /// The number of the item before it at which the gate stops.
+    pub stopped: Option<u64>,
+}
+
+/// Shows all items of the input, as the options say, and returns the number of the first one at
+/// which the gate stops. `keys` are the bytes of the file of keys, if the judge is to be asked.
 ///
 /// # Errors
 /// `NotHex` of external data, `NoKeys` and `OneKey`, and nothing is shown; `Input`, `Memory`,
@@ -41,7 +54,7 @@ pub fn show_as<R: io::Read + Drop, P: fmt::Write>(
     keys: Option<&[u8]>,
     input: BufReader<R>,
     out: &mut P,
-) -> Result<(), Stop> {
+) -> Result<Option<u64>, Stop> {
     let aad = match hex::decode(alloc, options.aad) {
         Ok(aad) => aad,
         Err(hex::FromHexError::OutOfMemory) => return Err(Stop::Memory),
@@ -73,16 +86,23 @@ fn show<R: io::Read + Drop, P: fmt::Write>(
     asking: &mut Option<Asking<'_>>,
     source: &mut Source<R>,
     page: &mut Page<'_, P>,
-) -> Result<(), Stop> {
+) -> Result<Option<u64>, Stop> {
+    let mut stopped = None;
     for number in 1..u64::MAX {
         match source.find()? {
             Found::Item(len) => {
-                let item = source.held().get(..len).unwrap_or(&[]);
-                let offset = source.offset();
-                show_item(alloc, request, asking, number, offset, item, page)?;
+                let item = Item {
+                    number,
+                    offset: source.offset(),
+                    bytes: source.held().get(..len).unwrap_or(&[]),
+                    stopped,
+                };
+                if show_item(alloc, request, asking, item, page)? {
+                    stopped = Some(number);
+                }
                 source.leave(len);
             }
-            Found::End => return Ok(()),
+            Found::End => return Ok(stopped),
             Found::Damaged(fault) if request.json => {
                 return write_damage(alloc, request.look, number, fault, source, page);
             }
@@ -91,28 +111,27 @@ fn show<R: io::Read + Drop, P: fmt::Write>(
             }
         }
     }
-    Ok(())
+    Ok(stopped)
 }
 
-/// Shows one item.
+/// Shows one item, and says whether the gate stops at it.
 fn show_item<P: fmt::Write>(
     alloc: Global,
     request: Request<'_>,
     asking: &mut Option<Asking<'_>>,
-    number: u64,
-    offset: usize,
-    item: &[u8],
+    item: Item<'_>,
     page: &mut Page<'_, P>,
-) -> Result<(), Stop> {
+) -> Result<bool, Stop> {
     if request.json {
-        return write_object(alloc, request, asking, number, offset, item, page);
+        return write_object(alloc, request, asking, item, page);
     }
+    let (number, offset) = (item.number, item.offset);
     write!(page, "item {number} at {offset}, ");
-    write_len(item.len(), page);
+    write_len(item.bytes.len(), page);
     page.write_str("\n");
-    show_content(alloc, request.look, item, page);
+    show_content(alloc, request.look, item.bytes, page);
     page.end()?;
-    show_verdict(alloc, request, asking, offset, item, page)
+    show_verdict(alloc, request, asking, item, page)
 }
 
 /// Shows what an item holds: keys, the parts of a message, or its notation.

@@ -1,16 +1,19 @@
 //! What the gate says of an item.
 use crate::asking::{Answer, Asking};
 use crate::shape::wrong_part;
-use crate::show::Request;
+use crate::show::{Item, Request};
 use cbor_diag::{Event, Excess, Fault, Page, Place, Step, Walk, first_excess};
 use ciborium_ll::Header;
 use cose_gate_core::{
     Asked, Decoder, End, Entry, GateFault, Limits, Mem, Recorder, Refusal, Terms, Verdict, gate_by,
 };
-use cose_notation::{Look, write_string};
+use cose_notation::{Look, lacks_tag, write_string};
 use cose_reasons::Stop;
 use std::alloc::Global;
 use std::fmt;
+
+/// What an array with the parts of one of these is, but for its tag.
+pub const UNTAGGED: &str = "COSE_Sign1 or COSE_Mac0";
 
 /// What the gate says of an item, if its judge says yes to each question.
 #[derive(Drop)]
@@ -160,8 +163,8 @@ fn first_other(a: &[u8], b: &[u8]) -> usize {
     a.iter().zip(b.iter()).take_while(|(x, y)| x == y).count()
 }
 
-/// Shows what the gate would say of the item at this offset, if its judge said yes to each
-/// question.
+/// Shows what the gate would say of an item, if its judge said yes to each question, and says
+/// whether the gate stops at it.
 ///
 /// # Errors
 /// `Output` and `Memory`.
@@ -169,29 +172,46 @@ pub fn show_verdict<P: fmt::Write>(
     alloc: Global,
     request: Request<'_>,
     asking: &mut Option<Asking<'_>>,
-    offset: usize,
-    item: &[u8],
+    item: Item<'_>,
     page: &mut Page<'_, P>,
-) -> Result<(), Stop> {
-    let ruling = rule(alloc, request.aad, item)?;
+) -> Result<bool, Stop> {
+    let stops = match item.stopped {
+        Some(number) => {
+            writeln!(page, "  gate: not reached, as it stops at item {number}");
+            false
+        }
+        None => show_ruling(alloc, request, asking, item, page)?,
+    };
+    page.end()?;
+    Ok(stops)
+}
+
+/// What the gate says, and what else was asked for; and whether the gate stops.
+fn show_ruling<P: fmt::Write>(
+    alloc: Global,
+    request: Request<'_>,
+    asking: &mut Option<Asking<'_>>,
+    item: Item<'_>,
+    page: &mut Page<'_, P>,
+) -> Result<bool, Stop> {
+    let Item { offset, bytes, .. } = item;
+    let ruling = rule(alloc, request.aad, bytes)?;
     say_verdict(&ruling, page);
-    if let Ok(Some(Verdict::Refused(Refusal::Shape(_)))) = &ruling.verdict {
-        say_wrong_part(alloc, item, page)?;
-    }
+    say_more(alloc, &ruling, bytes, page)?;
     if let Some(asking) = asking {
-        if let Some(answer) = asking.answer(alloc, request.aad, item, ruling.asked())? {
+        if let Some(answer) = asking.answer(alloc, request.aad, bytes, ruling.asked())? {
             say_answer(&answer, page);
         }
     }
     if request.strict {
-        if let Some(spelling) = ruling.spelling(alloc, item)? {
+        if let Some(spelling) = ruling.spelling(alloc, bytes)? {
             say_spelling(spelling, offset, page);
         }
     }
     if request.questions {
         show_questions(alloc, request.look, ruling.asked(), page);
     }
-    Ok(page.end()?)
+    Ok(ruling.verdict.is_err())
 }
 
 fn say_verdict<P: fmt::Write>(ruling: &Ruling, page: &mut Page<'_, P>) {
@@ -209,6 +229,25 @@ fn say_verdict<P: fmt::Write>(ruling: &Ruling, page: &mut Page<'_, P>) {
         Ok(Some(Verdict::Refused(refusal))) => writeln!(page, "  gate: refused: {refusal}"),
         Ok(None) => {}
         Err(fault) => writeln!(page, "  gate: stops at this item: {fault}"),
+    }
+}
+
+/// What is wrong in an item that is refused.
+fn say_more<P: fmt::Write>(
+    alloc: Global,
+    ruling: &Ruling,
+    item: &[u8],
+    page: &mut Page<'_, P>,
+) -> Result<(), Stop> {
+    match &ruling.verdict {
+        Ok(Some(Verdict::Refused(Refusal::Shape(_)))) => say_wrong_part(alloc, item, page),
+        Ok(Some(Verdict::Refused(Refusal::NotTagged))) => {
+            if lacks_tag(alloc, item)? {
+                writeln!(page, "    it has the shape of a {UNTAGGED} without its tag");
+            }
+            Ok(())
+        }
+        _ => Ok(()),
     }
 }
 

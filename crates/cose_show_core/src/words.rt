@@ -35,8 +35,8 @@ its shape. Strings of more than 64 bytes are cut; secrets of keys are left out.
   -h, --help   this text
 
 Status 0, or 2 for unknown arguments, 3 if FILE or KEYS can't be opened or KEYS
-isn't a key set, 4 if the input is damaged or can't be read, or the output can't
-be written.
+isn't a key set, 4 if the gate stops at an item, the input is damaged or can't be
+read, or the output can't be written.
 ";
 
 /// What is asked for.

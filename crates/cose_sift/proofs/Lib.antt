@@ -4,4 +4,6 @@ pub mod Takes
 pub mod Readable
 pub mod TakenItem
 pub mod ReadItem
+pub mod Untagged
 pub mod Sieve
+pub mod ReadThrough

@@ -3,7 +3,8 @@ use Rattle.std.proofs.Common.{◌≡◌, ◌≢◌, ℕ, zero, suc, ◌+◌, ◌
 use Rattle.std.proofs.lemmas.List.{reverse-append}
 use Rattle.ciborium_ll.specs.Title.{Title, Begins}
 use Rattle.ciborium_ll.specs.declared.hdr.Header.{Header}
-use Rattle.ciborium_ll.specs.declared.hdr.Header.TheVariants.{Break}
+use Rattle.ciborium_ll.specs.Title.NumberAt.{direct}
+use Rattle.ciborium_ll.specs.declared.hdr.Header.TheVariants.{Break, Positive}
 use Rattle.ciborium_ll.proofs.Closings.{split_heads, break_title}
 use Rattle.cose_sift.specs.declared.walk.Fault.{Fault}
 use Rattle.cose_sift.specs.declared.walk.Fault.TheVariants as fault
@@ -11,7 +12,7 @@ use Rattle.cose_sift.specs.declared.walk.Holds.{Holds}
 use Rattle.cose_sift.specs.declared.walk.Holds.TheVariants as holds
 use Rattle.cose_sift.specs.declared.walk.Level.{Level}
 use Rattle.cose_sift.specs.Grammar.{After, stated, upto, nowhere, after, body_of, bytes_in, size, takes, Item, item, Rest, of_stated, of_open, Items, no_items, item_more, no_groups, group_more}
-use Rattle.cose_sift.specs.Walking.{Then, Long, Behind, Wants, Follows, Goes, Refuses, Agrees, IfSyntax, IsNothing, IsOne}
+use Rattle.cose_sift.specs.Walking.{Then, Long, Behind, Wants, IsAround, Follows, Goes, Refuses, Agrees, IfSyntax, IsNothing, IsOne}
 use Rattle.cose_sift.proofs.Going.{regroup, goes_from, goes_to, goes_before}
 
 -- the head of an item
@@ -221,3 +222,33 @@ wants_begin (Some k) zero (l ∷ ls) i on (_, d, no_items, (_, z, group_more _ a
     (u, r ++ (c ++ z), record { title = s; is_title = v; whole = e ∙ g ∙ append_assoc a c z ∙ regroup a s r (c ++ z) m })
 wants_begin o (suc n) ls i on (_, y, item_more _ a c (item _ s r k t q f) is, w, e) =
     (k, r ++ (c ++ y), record { title = s; is_title = t; whole = e ∙ append_assoc a c y ∙ regroup a s r (c ++ y) f })
+
+-- What is due is there, if each open item has what is around it.
+pub closes_sound : (o : Option Holds) (xs ys : List Level) (l : Level) → o ≢ None → xs ≡ ys ++ l ∷ [] → IsAround o (reverse xs) → IsAround l.holds (reverse ys)
+closes_sound None xs ys l on e s = absurd (on refl)
+closes_sound (Some k) xs ys l on e s = subst (IsAround (Some k)) (reversed xs ys l e) s
+
+zero_item : Item (0 ∷ [])
+zero_item = item (0 ∷ []) (0 ∷ []) [] (Positive 0) (0, ([], refl, direct (omega arith) refl refl)) (of_stated 0 0 [] [] [] refl no_items refl) refl
+
+items_there : (n : ℕ) → (b : List ℕ) × Items n b
+items_there zero = ([], no_items)
+items_there (suc n) = let r = items_there n in (0 ∷ r.0, item_more n (0 ∷ []) r.0 zero_item r.1)
+
+behind_there : (o : Option Holds) (ls : List Level) → IsAround o ls → (b : List ℕ) × Behind o ls b
+behind_there None ls s = ([], refl)
+behind_there (Some k) [] s = absurd s
+behind_there (Some k) (l ∷ ls) s =
+    let r = behind_there l.holds ls s in
+    let i = items_there l.due in
+    (255 ∷ (i.0 ++ r.0), ([], 255 ∷ (i.0 ++ r.0), no_groups k, (255 ∷ [], i.0 ++ r.0, refl, (i.0, r.0, i.1, r.1, refl), refl), refl))
+
+pub wants_there : (o : Option Holds) (due : ℕ) (ls : List Level) → IsAround o ls → (b : List ℕ) × Wants o due ls b
+wants_there o due ls s =
+    let r = behind_there o ls s in
+    let i = items_there due in
+    (i.0 ++ r.0, (i.0, r.0, i.1, r.1, refl))
+
+pub string_there : (n : ℕ) → (b : List ℕ) × Long n b
+string_there zero = ([], refl)
+string_there (suc n) = let r = string_there n in (0 ∷ r.0, ap suc r.1)

@@ -1,7 +1,8 @@
 -- An item that is taken step by step.
-use Rattle.std.proofs.Common.{◌≡◌, ◌+◌, ℕ, List, [], ◌∷◌, ◌++◌, length, Option, Some, None, sym, subst, ◌∙◌, append_assoc, append-nil, arith}
+use Rattle.std.proofs.Common.{◌≡◌, ◌+◌, ℕ, List, [], ◌∷◌, ◌++◌, length, Option, Some, None, refl, sym, subst, ◌∙◌, append_assoc, append-nil, arith, length-append, reverse}
 use Rattle.std.proofs.lemmas.List.{append_cancel_left}
 use Rattle.std.specs.Io.KnownBytes.{Consumes}
+use Rattle.std.proofs.KnownBytes.{Consumes-trans}
 use Rattle.ciborium_ll.specs.Seen.{Seen, Takes}
 use Rattle.ciborium.proofs.Taking.{takes_then, takes_as, takes_none}
 use Rattle.cose_sift.specs.declared.items.Halt.{Halt}
@@ -10,10 +11,10 @@ use Rattle.cose_sift.specs.declared.taking.Stop.{Stop}
 use Rattle.cose_sift.specs.declared.taking.Stop.TheVariants as stop
 use Rattle.cose_sift.specs.declared.taking.Taking.{Taking}
 use Rattle.cose_sift.specs.Grammar.{Item}
-use Rattle.cose_sift.specs.Taking.{due_by, Held, StepFails, BeginsNone, IfKnown, ItemFails}
-use Rattle.cose_sift.specs.Walking.{Goes, Refuses, IsNothing, IsOne}
+use Rattle.cose_sift.specs.Taking.{due_by, Held, StepFails, BeginsNone, IfKnown, ItemFails, IsPlace}
+use Rattle.cose_sift.specs.Walking.{Goes, Refuses, IsNothing, IsOne, IsSound}
 use Rattle.cose_sift.proofs.Going.{regroup, goes_then}
-use Rattle.cose_sift.proofs.Steps.{whole_item}
+use Rattle.cose_sift.proofs.Steps.{whole_item, wants_there, string_there}
 
 -- some of the item was taken
 pub record Begun (old new : Seen) (t : Taking) : Type 0 where
@@ -52,7 +53,7 @@ refuses_behind P x y g r i behind left p e =
 pub begun_fails : (old mid new : Seen) (t : Taking) (s : Stop) → Begun old mid t → StepFails (due_by t) mid new s → ItemFails old new (halt.Decode s)
 begun_fails old mid new t (stop.Syntax p) b f = (
   (let g : new.offset ≡ mid.offset + length f.1.bytes = f.1.grown in let h : p ≡ mid.offset = f.0 in omega arith),
-  takes_then old.left mid.left new.left old.offset mid.offset new.offset _ _ (Refuses Item) b.taken f.1 (λ x y q r. refuses_behind (due_by t) x y q.0 r),
+  takes_then old.left mid.left new.left old.offset mid.offset new.offset _ _ (Refuses Item) b.taken f.1 (λ x y q r. refuses_behind (due_by t) x y q.0 r.1),
 )
 begun_fails old mid new t stop.End b f = (
   λ same. nothing_behind b.taken.bytes old.left mid.left (let g : mid.offset ≡ old.offset + length b.taken.bytes = b.taken.grown in let h : new.offset ≡ mid.offset = f.0 in omega arith) b.taken.taken f.1,
@@ -66,3 +67,41 @@ begun_fails old mid new t stop.Memory b f = tt
 
 pub halted : (old new : Seen) (h : Halt) → h ≡ halt.Write → ItemFails old new h
 halted old new h e = subst (ItemFails old new) (sym e) tt
+
+-- what is due is there
+due_there : (t : Taking) → IsSound t.walk → (b : List ℕ) × due_by t b
+due_there t sound =
+    let x = string_there t.body in
+    let w = wants_there t.walk.holds t.walk.due (reverse t.walk.levels.items) sound in
+    (x.0 ++ w.0, (x.0, w.0, x.1, w.1, refl))
+
+-- where it stopped
+pub begun_place : (old mid new : Seen) (t : Taking) (s : Stop) → IsSound t.walk → Begun old mid t → StepFails (due_by t) mid new s → IsPlace old new (halt.Decode s)
+begun_place old mid new t (stop.Syntax p) sound b f =
+    let some = due_there t sound in (
+      length b.taken.bytes,
+      f.0 ∙ b.taken.grown,
+      record {
+        bytes = b.taken.bytes ++ f.1.bytes;
+        has = record {
+          front = b.taken.bytes;
+          head = f.1.bytes;
+          whole = refl;
+          place = refl;
+          begins = (some.0, b.taken.has.0.back some.0 some.1);
+          is_head = f.1.has.0;
+          refused = refuses_behind (due_by t) b.taken.bytes f.1.bytes b.taken.has.0 f.1.has.1;
+        };
+        taken = Consumes-trans old.left mid.left new.left b.taken.bytes f.1.bytes b.taken.taken f.1.taken;
+        grown = omega (arith, b.taken.grown, f.1.grown, length-append b.taken.bytes f.1.bytes);
+      },
+    )
+begun_place old mid new t stop.End sound b f = tt
+begun_place old mid new t stop.Cut sound b f = tt
+begun_place old mid new t stop.Deep sound b f = tt
+begun_place old mid new t stop.Input sound b f = tt
+begun_place old mid new t stop.TooLong sound b f = tt
+begun_place old mid new t stop.Memory sound b f = tt
+
+pub no_place : (old new : Seen) (h : Halt) → h ≡ halt.Write → IsPlace old new h
+no_place old new h e = subst (IsPlace old new) (sym e) tt

@@ -1,10 +1,10 @@
 -- Heads and strings that are taken from a decoder.
-use Rattle.std.proofs.Common.{◌≡◌, ◌≤◌, ◌+◌, ℕ, List, [], ◌∷◌, ◌++◌, length, take, drop, Bool, true, false, IsTrue, cond, get_or, Option, Some, None, refl, sym, ap, subst, ◌∙◌, append_assoc, append-nil, ◌^◌, length-append, length-drop, arith}
+use Rattle.std.proofs.Common.{◌≡◌, ◌≤◌, ◌+◌, ℕ, List, [], ◌∷◌, ◌++◌, length, take, drop, Bool, true, false, IsTrue, cond, get_or, Option, Some, None, refl, sym, ap, subst, ◌∙◌, append_assoc, append-nil, ◌^◌, inl, inr, length-append, length-drop, arith}
 use Rattle.std.proofs.lemmas.List.{take-append-drop, length-take-le}
 use Rattle.std.specs.Io.KnownBytes.{Consumes}
 use Rattle.std.proofs.KnownBytes.{Consumes-trans}
 use Rattle.ciborium_ll.specs.Device.{IsShort}
-use Rattle.ciborium_ll.specs.Reading.{Moves, Tells, Ends, IsBadByte}
+use Rattle.ciborium_ll.specs.Reading.{Moves, Tells, Ends, IsBadByte, fault_failures}
 use Rattle.ciborium_ll.specs.Seen.{Seen, ReadTells}
 use Rattle.ciborium_ll.specs.Title.{Title, Begins, IsCut, StartsBad, bytes_after}
 use Rattle.ciborium_ll.specs.declared.hdr.Error.{Error}
@@ -16,7 +16,7 @@ use Rattle.cose_sift.specs.declared.taking.Stop.{Stop}
 use Rattle.cose_sift.specs.declared.taking.Stop.TheVariants as stop
 use Rattle.cose_sift.specs.declared.walk.Fault.{Fault}
 use Rattle.cose_sift.specs.declared.walk.Fault.TheVariants as fault
-use Rattle.cose_sift.specs.Taking.{HeadFails, StepFails, BeginsNone, IfKnown, stop_of, stopped_at}
+use Rattle.cose_sift.specs.Taking.{HeadFails, StepFails, BeginsNone, IfKnown, stop_of, stopped_at, failures_by}
 use Rattle.cose_sift.specs.Walking.{Then, Long, Follows, Goes, Refuses, IsNothing, IfSyntax}
 use Rattle.cose_sift.proofs.Going.{regroup, goes_from}
 use Rattle.cose_sift.proofs.Steps.{only_rest, no_body}
@@ -32,6 +32,21 @@ module _ {E : Type 0} (F : Stop → Type 0) (input : F stop.Input) (long : F sto
   read_fails (code.Syntax p) s is f = absurd f
   read_fails code.TooLong s is f = subst F (sym is) long
   read_fails code.Waiting s is f = subst F (sym is) input
+
+-- how often the reader has failed then, if no header waited
+by_ends : (b : Bool) (end : Stop) (n : ℕ) → failures_by end n ≡ n → cond b n (n + 1) ≡ failures_by (cond b end stop.Input) n
+by_ends true end n none = sym none
+by_ends false end n none = refl
+
+stop_failures : {E : Type 0} (ends : E → Bool) (k n : ℕ) (mid new : Seen) (end : Stop) (e : Error E) → mid.waiting ≡ None → failures_by end n ≡ n → ReadTells ends k mid new e → fault_failures ends e n ≡ failures_by (stop_of ends end e) n
+stop_failures ends k n mid new end (code.Io e) fresh none f = by_ends (ends e) end n none
+stop_failures ends k n mid new end (code.Syntax p) fresh none f = refl
+stop_failures ends k n mid new end code.TooLong fresh none f = refl
+stop_failures ends k n mid new end code.Waiting fresh none f = absurd (f.0 fresh)
+
+pub read_failed : {E : Type 0} (ends : E → Bool) (k n m : ℕ) (mid new : Seen) (end : Stop) (e : Error E) (s : Stop) → mid.waiting ≡ None → failures_by end n ≡ n → ReadTells ends k mid new e → s ≡ stop_of ends end e
+    → m ≡ fault_failures ends e n → m ≡ failures_by s n
+read_failed ends k n m mid new end e s fresh none f is was = was ∙ stop_failures ends k n mid new end e fresh none f ∙ ap (λ z. failures_by z n) (sym is)
 
 -- the input ends before the first byte of a head, or after it
 pub short_first : (left : Option (List ℕ)) (n : ℕ) → n ≡ 1 → IsShort left n → IfKnown left IsNothing
@@ -84,7 +99,7 @@ module _ (P : List ℕ → Type 0) (begins : (i : List ℕ) → P i → (h : Hea
   bad_refuses x bad i behind left p e = let q = begins i p in not_bad q.2.title (q.1 ++ behind) q.0 q.2.is_title (subst StartsBad (sym (sym (regroup i q.2.title q.1 behind q.2.whole) ∙ e)) (bad_on x left bad))
 
   pub head_fails : (old new : Seen) (s : Stop) → HeadFails old new s → StepFails P old new s
-  head_fails old new (stop.Syntax p) f = (f.0, record { bytes = f.1.bytes; has = bad_refuses f.1.bytes f.1.has; taken = f.1.taken; grown = f.1.grown })
+  head_fails old new (stop.Syntax p) f = (f.0, record { bytes = f.1.bytes; has = (inr f.1.has, bad_refuses f.1.bytes f.1.has); taken = f.1.taken; grown = f.1.grown })
   head_fails old new stop.End f = (f.0, f.1, cut_none old.left (end_cut old.left f.1))
   head_fails old new stop.Cut f = cut_none old.left f
   head_fails old new stop.Deep f = tt
@@ -96,7 +111,7 @@ module _ (P : List ℕ → Type 0) (begins : (i : List ℕ) → P i → (h : Hea
 pub walk_fails : (W : List ℕ → Type 0) (body : ℕ) (old new : Seen) (h : Header) (at : ℕ) (f : Fault) (s : Stop) (x : List ℕ) → body ≡ 0 → s ≡ stopped_at at f → at ≡ old.offset → Title x h
     → Consumes old.left new.left x → new.offset ≡ old.offset + length x → IfSyntax ((title : List ℕ) → Title title h → Refuses W title) f → StepFails (Then (Long body) W) old new s
 walk_fails W body old new h at fault.Syntax s x none is e t c g r =
-    subst (StepFails (Then (Long body) W) old new) (sym is) (e, record { bytes = x; has = λ i behind left p. r x t i behind left (only_rest W i (subst (λ z. Then (Long z) W i) none p)); taken = c; grown = g })
+    subst (StepFails (Then (Long body) W) old new) (sym is) (e, record { bytes = x; has = (inl (h, t), λ i behind left p. r x t i behind left (only_rest W i (subst (λ z. Then (Long z) W i) none p))); taken = c; grown = g })
 walk_fails W body old new h at fault.Deep s x none is e t c g r = subst (StepFails (Then (Long body) W) old new) (sym is) tt
 walk_fails W body old new h at fault.Memory s x none is e t c g r = subst (StepFails (Then (Long body) W) old new) (sym is) tt
 

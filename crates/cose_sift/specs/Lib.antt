@@ -2,4 +2,5 @@ pub mod Grammar
 pub mod Walking
 pub mod Taking
 pub mod Reading
+pub mod Untagging
 pub mod Sifting

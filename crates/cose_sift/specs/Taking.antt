@@ -1,9 +1,10 @@
 -- An item that is taken head by head.
-use Rattle.std.specs.Prelude.{◌≡◌, ℕ, ◌<◌, ◌≤◌, List, ◌++◌, length, MatchBool, Bool, if◌then◌else◌, Option, Some, None}
+use Rattle.std.specs.Prelude.{◌≡◌, ℕ, ◌+◌, ◌<◌, ◌≤◌, ◌⊎◌, List, ◌++◌, length, MatchBool, Bool, if◌then◌else◌, Option, Some, None, Result, Ok, Err}
 use Rattle.ciborium_ll.specs.Seen.{Seen, Takes}
-use Rattle.ciborium_ll.specs.Title.{IsCut, StartsBad}
+use Rattle.ciborium_ll.specs.Title.{Title, IsCut, StartsBad}
 use Rattle.ciborium_ll.specs.declared.hdr.Error.{Error}
 use Rattle.ciborium_ll.specs.declared.hdr.Error.TheVariants as code
+use Rattle.ciborium_ll.specs.declared.hdr.Header.{Header}
 use Rattle.cose_sift.specs.declared.items.Halt.{Halt}
 use Rattle.cose_sift.specs.declared.items.Halt.TheVariants as halt
 use Rattle.cose_sift.specs.declared.taking.Stop.{Stop}
@@ -42,6 +43,28 @@ stop_of ends end (code.Syntax p) = stop.Syntax p
 stop_of ends end code.TooLong = stop.TooLong
 stop_of ends end code.Waiting = stop.Input
 
+-- how often the reader has failed after this: once more only if it says so
+abbrev pub failures_by : Stop → ℕ → ℕ
+failures_by (stop.Syntax p) n = n
+failures_by stop.End n = n
+failures_by stop.Cut n = n
+failures_by stop.Deep n = n
+failures_by stop.Input n = n + 1
+failures_by stop.TooLong n = n
+failures_by stop.Memory n = n
+
+abbrev pub failures_of : {T : Type 0} → Result T Stop → ℕ → ℕ
+failures_of (Ok x) n = n
+failures_of (Err s) n = failures_by s n
+
+abbrev pub failures_at : Halt → ℕ → ℕ
+failures_at (halt.Decode s) n = failures_by s n
+failures_at halt.Write n = n
+
+abbrev pub failures_after : {T : Type 0} → Result T Halt → ℕ → ℕ
+failures_after (Ok x) n = n
+failures_after (Err h) n = failures_at h n
+
 -- why the walk stopped at a head
 abbrev pub stopped_at : ℕ → Fault → Stop
 stopped_at at fault.Syntax = stop.Syntax at
@@ -58,9 +81,13 @@ HeadFails old new stop.Input = Unit {0}
 HeadFails old new stop.TooLong = Unit {0}
 HeadFails old new stop.Memory = Unit {0}
 
+-- one head, or bytes the first of which begins none
+abbrev pub IsHead : List ℕ → Type 0
+IsHead x = ((h : Header) × Title x h) ⊎ StartsBad x
+
 -- why an item of which P is due doesn't go on
 abbrev pub StepFails : (List ℕ → Type 0) → Seen → Seen → Stop → Type 0
-StepFails P old new (stop.Syntax p) = (p ≡ old.offset) × Takes old new (Refuses P)
+StepFails P old new (stop.Syntax p) = (p ≡ old.offset) × Takes old new (λ x. IsHead x × Refuses P x)
 StepFails P old new stop.End = (new.offset ≡ old.offset) × IfKnown old.left IsNothing × BeginsNone P old.left
 StepFails P old new stop.Cut = BeginsNone P old.left
 StepFails P old new stop.Deep = Unit {0}
@@ -78,3 +105,25 @@ ItemFails old new (halt.Decode stop.Input) = Unit {0}
 ItemFails old new (halt.Decode stop.TooLong) = Unit {0}
 ItemFails old new (halt.Decode stop.Memory) = Unit {0}
 ItemFails old new halt.Write = Unit {0}
+
+-- no item begins with `x`, though one does with its first n bytes, after which it is one head, or
+-- bytes the first of which begins none
+pub record StopsAt (n : ℕ) (x : List ℕ) : Type 0 where
+  pub front : List ℕ
+  pub head : List ℕ
+  pub whole : x ≡ front ++ head
+  pub place : length front ≡ n
+  pub begins : (rest : List ℕ) × Item (front ++ rest)
+  pub is_head : IsHead head
+  pub refused : Refuses Item x
+
+-- the place that a syntax fault names
+abbrev pub IsPlace : Seen → Seen → Halt → Type 0
+IsPlace old new (halt.Decode (stop.Syntax p)) = (n : ℕ) × (p ≡ old.offset + n) × Takes old new (StopsAt n)
+IsPlace old new (halt.Decode stop.End) = Unit {0}
+IsPlace old new (halt.Decode stop.Cut) = Unit {0}
+IsPlace old new (halt.Decode stop.Deep) = Unit {0}
+IsPlace old new (halt.Decode stop.Input) = Unit {0}
+IsPlace old new (halt.Decode stop.TooLong) = Unit {0}
+IsPlace old new (halt.Decode stop.Memory) = Unit {0}
+IsPlace old new halt.Write = Unit {0}

@@ -35,6 +35,15 @@ wanted_by w = Wants w.holds w.due (reverse w.levels.items)
 abbrev pub IsDue : Walk → Type 0
 IsDue w = w.due ≡ 0 → w.holds ≢ None
 
+-- each open item has what is around it
+abbrev pub IsAround : Option Holds → List Level → Type 0
+IsAround None ls = Unit {0}
+IsAround (Some k) [] = ⊥
+IsAround (Some k) (l ∷ ls) = IsAround l.holds ls
+
+abbrev pub IsSound : Walk → Type 0
+IsSound w = IsAround w.holds (reverse w.levels.items)
+
 -- the bytes `i` are `x` and then bytes that are Q
 pub record Follows (Q : List ℕ → Type 0) (x i : List ℕ) : Type 0 where
   pub rest : List ℕ

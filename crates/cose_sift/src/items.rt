@@ -4,8 +4,8 @@ ghost use Rattle.std.specs.Io.KnownBytes.{Keeps};
 ghost use Rattle.ciborium_ll.specs.Seen.{Takes};
 ghost use Rattle.ciborium_ll.specs.Views.{waiting_of, seen};
 ghost use Rattle.cose_sift.specs.Grammar.{Item};
-ghost use Rattle.cose_sift.specs.Walking.{Goes, IsOne};
-ghost use Rattle.cose_sift.specs.Taking.{due_by, IsDue, Held, ItemFails};
+ghost use Rattle.cose_sift.specs.Walking.{Goes, IsOne, IsSound};
+ghost use Rattle.cose_sift.specs.Taking.{due_by, IsDue, Held, ItemFails, IsPlace, failures_after};
 ghost use Rattle.cose_sift.specs.declared.items.Halt.TheVariants as halt;
 
 use crate::taking::{Stop, Taking};
@@ -62,6 +62,10 @@ pub fn take_item<R: Read, W: Write, E: Write>(
     ensures ok { OnOk result (Takes (seen R.Read decoder.old) (seen R.Read decoder.new)
         (λ x. IsOne x × Held taking.new x)) }
     ensures err { IfErr result (ItemFails (seen R.Read decoder.old) (seen R.Read decoder.new)) }
+    ensures place { IsSound taking.old.walk → IfErr result (IsPlace (seen R.Read decoder.old)
+        (seen R.Read decoder.new)) }
+    ensures failed { (seen R.Read decoder.new).failed
+        ≡ failures_after result (seen R.Read decoder.old).failed }
     ensures fresh { waiting_of decoder.new ≡ None }
     ensures out { Keeps (W.written out.old) (W.written out.new) }
     ensures lines { Keeps (E.written lines.old) (E.written lines.new) }

@@ -1,6 +1,6 @@
-//! `cose-sift [--max BYTES]`: reads a CBOR sequence from standard input, and writes the items that
-//! the gate can read to standard output, byte for byte, so that one that it can't read doesn't stop
-//! it.
+//! `cose-sift [--untag] [--max BYTES]`: reads a CBOR sequence from standard input, and writes the
+//! items that the gate can read to standard output, byte for byte, so that one that it can't read
+//! doesn't stop it.
 #![tactic(auto)]
 
 mod items;
@@ -9,11 +9,12 @@ mod lines;
 mod reading;
 mod sifting;
 mod taking;
+mod untagging;
 mod walk;
 
 use crate::items::Halt;
 use crate::lines::write_end;
-use crate::sifting::{Counts, sift};
+use crate::sifting::{Counts, Options, sift};
 use ciborium_ll::{Decoder, Io, Write};
 use cose_gate_command::{
     NotRun, asks_for_help, asks_for_version, ended, read_in_blocks, words_of, write_help,
@@ -27,17 +28,18 @@ use std::process::ExitCode;
 const MAX: usize = 1_048_576;
 
 /// The line for other arguments.
-const USAGE: &str = "usage: cose-sift [--max BYTES] < INPUT > SIFTED\n";
+const USAGE: &str = "usage: cose-sift [--untag] [--max BYTES] < INPUT > SIFTED\n";
 
 /// What `--version` prints.
 const VERSION: &str = "cose-sift 0.8\n";
 
 /// What `-h` and `--help` print. The script `cose-sift` prints the same.
 const HELP: &str = "\
-usage: cose-sift [--max BYTES] < INPUT > SIFTED
+usage: cose-sift [--untag] [--max BYTES] < INPUT > SIFTED
 Reads a CBOR sequence, and writes the items that cose-gate can read, byte for byte.
 Any other item is left out, and so is one of more than BYTES bytes (1048576 if it is
 left out), of which nothing is held.
+--untag takes the tags 61 and 55799 around an item off, and writes what is in them.
 On standard error: a line for each item that is left out, and at the end how many were
 written and left out. What is written is out before the program waits for input.
 Status 0: no item was left out. 1: some were. 2: wrong arguments. 4: some bytes begin no
@@ -60,23 +62,34 @@ fn start(rt: &HostRuntime) -> Result<u8, NotRun> {
     if asks_for_version(words.as_slice()) {
         return write_help(VERSION, &mut rt.stdout());
     }
-    match max_of(words.as_slice()) {
-        Some(max) => run(rt, max),
+    match options_of(words.as_slice()) {
+        Some(options) => run(rt, options),
         None => Err(NotRun::Usage),
     }
 }
 
-/// How many bytes an item may have by these arguments; `None` if they are others.
-fn max_of(words: &[String]) -> Option<usize> {
-    match words {
-        [] => Some(MAX),
-        [option, digits] if option.as_str() == "--max" => digits.as_str().parse::<usize>().ok(),
-        _ => None,
+/// What these arguments ask for; `None` if they are others.
+fn options_of(words: &[String]) -> Option<Options> {
+    let mut options = Options {
+        untag: false,
+        max: MAX,
+    };
+    let mut words = words.iter();
+    for _ in 0..words.len() {
+        let Some(word) = words.next() else {
+            break;
+        };
+        match word.as_str() {
+            "--untag" => options.untag = true,
+            "--max" => options.max = words.next()?.as_str().parse::<usize>().ok()?,
+            _ => return None,
+        }
     }
+    Some(options)
 }
 
 /// The run over the standard streams.
-fn run(rt: &HostRuntime, max: usize) -> Result<u8, NotRun> {
+fn run(rt: &HostRuntime, options: Options) -> Result<u8, NotRun> {
     let alloc = rt.alloc();
     let input = read_in_blocks(alloc, rt.stdin())?;
     let mut output = write_in_blocks(alloc, rt.stdout())?;
@@ -84,7 +97,7 @@ fn run(rt: &HostRuntime, max: usize) -> Result<u8, NotRun> {
     let mut decoder = Decoder::from(Blocks::new(input));
     let mut out = Io::new(&mut output);
     let mut told = Io::new(&mut lines);
-    let end = sift(alloc, max, &mut decoder, &mut out, &mut told);
+    let end = sift(alloc, options, &mut decoder, &mut out, &mut told);
     let status = write_end(flushed(end, &mut out), &mut told);
     // What a flush that failed has left isn't written as the program ends.
     let _ = (output.into_parts(), lines.into_parts());

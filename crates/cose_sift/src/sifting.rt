@@ -4,9 +4,8 @@ ghost use Rattle.std.specs.Io.KnownBytes.{Keeps, Appends};
 ghost use Rattle.ciborium_ll.specs.Device.{AppendsFront};
 ghost use Rattle.ciborium_ll.specs.Views.{waiting_of, seen};
 ghost use Rattle.ciborium_ll.specs.Views.{left_of};
-ghost use Rattle.cose_sift.specs.Reading.{IsReadable};
-ghost use Rattle.cose_sift.specs.Sifting.{Writes, Halts};
-ghost use Rattle.cose_sift.specs.Taking.{IfKnown};
+ghost use Rattle.cose_sift.specs.Sifting.{Readably, IsUnreadable, Writes, Halts};
+ghost use Rattle.cose_sift.specs.Taking.{IfKnown, failures_after};
 ghost use Rattle.cose_sift.specs.Walking.{IsOne};
 ghost use Rattle.cose_sift.specs.declared.items.Halt.TheVariants as halt;
 ghost use Rattle.cose_sift.specs.declared.taking.Stop.TheVariants as stop;
@@ -15,8 +14,18 @@ use crate::items::{Halt, take_item};
 use crate::lines::write_left_out;
 use crate::reading::is_readable;
 use crate::taking::{Stop, Taking};
+use crate::untagging::content_of;
 use ciborium_ll::{Decoder, Read, Write};
 use std::alloc::Global;
+
+/// What is asked for.
+#[derive(Debug, Clone, Copy, PartialEq, Eq)]
+pub struct Options {
+    /// The tags 61 and 55799 around an item are taken off.
+    pub untag: bool,
+    /// So many bytes an item may have, with those tags.
+    pub max: usize,
+}
 
 /// How many items were written, and how many were left out.
 #[derive(Debug, Clone, Copy, PartialEq, Eq)]
@@ -68,47 +77,51 @@ fn ended(fault: Halt, from: usize, to: usize, counts: Counts) -> Result<Counts, 
     }
 }
 
-/// Writes the item if it can be read, and says whether it was written.
-fn pass<W: Write>(alloc: Global, item: &[u8], out: &mut W) -> Result<bool, Halt>
+/// Writes what is to be written of the item if that can be read, and says whether it was written.
+fn pass<W: Write>(alloc: Global, untag: bool, item: &[u8], out: &mut W) -> Result<bool, Halt>
     requires { IsOne item.now }
     ensures ok { IfOk result (λ yes. MatchBool yes
-        (IsReadable item.now × Appends (W.written out.old) (W.written out.new) item.now)
-        ((IsReadable item.now → ⊥) × Keeps (W.written out.old) (W.written out.new))) }
+        (Readably «untag» item.now (Appends (W.written out.old) (W.written out.new)))
+        (IsUnreadable «untag» item.now × Keeps (W.written out.old) (W.written out.new))) }
     ensures err { IfErr result (λ h.
         ((h ≡ halt.Decode stop.Memory) × Keeps (W.written out.old) (W.written out.new))
-        ⊎ ((h ≡ halt.Write) × IsReadable item.now
-        × AppendsFront (W.written out.old) (W.written out.new) item.now)) }
+        ⊎ ((h ≡ halt.Write)
+        × Readably «untag» item.now (AppendsFront (W.written out.old) (W.written out.new)))) }
 {
-    match is_readable(alloc, item) {
+    let content = content_of(untag, item);
+    match is_readable(alloc, content) {
         Ok(true) => {}
         Ok(false) => return Ok(false),
         Err(halt) => return Err(halt),
     }
-    match out.write_all(item) {
+    match out.write_all(content) {
         Ok(()) => Ok(true),
         Err(_) => Err(Halt::Write),
     }
 }
 
-/// Writes the items that can be read and have no more than `max` bytes, in order, byte for byte,
-/// and a line for each of the others. Before it waits for input it flushes.
+/// Writes the items that have no more than `max` bytes and can be read, in order, byte for byte but
+/// for the tags that are taken off, and a line for each of the others. Before it waits for input it
+/// flushes.
 ///
 /// # Errors
 /// `Decode` if no item goes on where the input isn't at its end, and `Write`.
 pub fn sift<R: Read, W: Write, E: Write>(
     alloc: Global,
-    max: usize,
+    options: Options,
     decoder: &mut Decoder<R>,
     out: &mut W,
     lines: &mut E,
 ) -> Result<Counts, Halt>
     requires fresh { waiting_of decoder.old ≡ None }
     ensures ok { IfOk result (λ counts. IfKnown (left_of R.left decoder.old)
-        (Writes «max» (W.written out.old) (W.written out.new) counts)) }
-    ensures err { IfErr result (Halts «max» (seen R.Read decoder.old) (seen R.Read decoder.new)
-        (W.written out.old) (W.written out.new)) }
+        (Writes «options» (W.written out.old) (W.written out.new) counts)) }
+    ensures err { IfErr result (Halts «options» (seen R.Read decoder.old)
+        (seen R.Read decoder.new) (W.written out.old) (W.written out.new)) }
+    ensures failed { (seen R.Read decoder.new).failed
+        ≡ failures_after result (seen R.Read decoder.old).failed }
 {
-    let mut taking = Taking::new(alloc, max);
+    let mut taking = Taking::new(alloc, options.max);
     let mut counts = Counts {
         sifted: 0,
         dropped: 0,
@@ -120,7 +133,7 @@ pub fn sift<R: Read, W: Write, E: Write>(
             Err(halt) => return ended(halt, at, decoder.offset(), counts),
         }
         let is_sifted = match taking.bytes() {
-            Some(item) => match pass(alloc, item, out) {
+            Some(item) => match pass(alloc, options.untag, item, out) {
                 Ok(yes) => yes,
                 Err(halt) => return Err(halt),
             },

@@ -5,9 +5,9 @@ ghost use Rattle.ciborium_ll.specs.Seen.{Takes};
 ghost use Rattle.ciborium_ll.specs.Title.{Title, StartsBad, bytes_after};
 ghost use Rattle.ciborium_ll.specs.Views.{waiting_of, seen};
 ghost use Rattle.cose_sift.specs.Grammar.{Item, body_of};
-ghost use Rattle.cose_sift.specs.Walking.{Goes, IsNothing};
+ghost use Rattle.cose_sift.specs.Walking.{Goes, IsNothing, IsSound};
 ghost use Rattle.cose_sift.specs.Taking.{due_by, IsDue, Held, HeadFails, StepFails, stop_of};
-ghost use Rattle.cose_sift.specs.Taking.{stopped_at};
+ghost use Rattle.cose_sift.specs.Taking.{stopped_at, failures_of};
 ghost use Rattle.cose_sift.specs.declared.taking.Stop.TheVariants.{Memory};
 
 use crate::walk::{Fault, Walk};
@@ -120,6 +120,8 @@ fn take_head<R: Read>(decoder: &mut Decoder<R>, title: &mut Vec<u8>) -> Result<H
     ensures ok { IfOk result (λ header. Takes (seen R.Read decoder.old) (seen R.Read decoder.new)
         (λ x. (x ≡ title.new.items) × Title x header)) }
     ensures err { IfErr result (HeadFails (seen R.Read decoder.old) (seen R.Read decoder.new)) }
+    ensures failed { (seen R.Read decoder.new).failed
+        ≡ failures_of result (seen R.Read decoder.old).failed }
     ensures fresh { waiting_of decoder.new ≡ None }
 {
     let at = decoder.offset();
@@ -150,6 +152,7 @@ impl Taking {
         ensures due { IsDue result }
         ensures held { Held result [] }
         ensures max { result.max ≡ «max» }
+        ensures sound { IsSound result.walk }
     {
         Taking {
             walk: Walk::new(alloc, LEVELS.saturating_add(max / LEVEL)),
@@ -166,6 +169,7 @@ impl Taking {
         ensures due { IsDue self.new }
         ensures held { Held self.new [] }
         ensures max { self.new.max ≡ self.old.max }
+        ensures sound { IsSound self.new.walk }
     {
         self.walk.restart();
         self.body = 0;
@@ -229,8 +233,11 @@ impl Taking {
             × ((y : List ℕ) → Held self.old y → Held self.new (y ++ x)))) }
         ensures err { IfErr result (StepFails (due_by self.old)
             (seen R.Read decoder.old) (seen R.Read decoder.new)) }
+        ensures failed { (seen R.Read decoder.new).failed
+            ≡ failures_of result (seen R.Read decoder.old).failed }
         ensures fresh { waiting_of decoder.new ≡ None }
         ensures max { self.new.max ≡ self.old.max }
+        ensures sound { OnOk result (IsSound self.old.walk → IsSound self.new.walk) }
     {
         if self.body > 0 {
             return self.take_body(decoder);
@@ -258,8 +265,11 @@ impl Taking {
             × ((y : List ℕ) → Held self.old y → Held self.new (y ++ x)))) }
         ensures err { IfErr result (StepFails (due_by self.old)
             (seen R.Read decoder.old) (seen R.Read decoder.new)) }
+        ensures failed { (seen R.Read decoder.new).failed
+            ≡ failures_of result (seen R.Read decoder.old).failed }
         ensures fresh { waiting_of decoder.new ≡ None }
         ensures max { self.new.max ≡ self.old.max }
+        ensures walk { self.new.walk ≡ self.old.walk }
     {
         let mut piece = [0; PIECE];
         let len = decoder.held().len().clamp(1, PIECE).min(self.body as usize);

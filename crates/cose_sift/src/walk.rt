@@ -6,7 +6,7 @@ ghost use Rattle.ciborium_ll.specs.declared.hdr.Header.TheVariants.{Break};
 ghost use Rattle.cose_sift.specs.Grammar.{takes, size, body_of, IsNext, Item};
 ghost use Rattle.cose_sift.specs.declared.walk.Fault.TheVariants.{Deep};
 ghost use Rattle.cose_sift.specs.Walking.{Long, Then, Goes, Refuses, Agrees};
-ghost use Rattle.cose_sift.specs.Walking.{IfSyntax, wanted_by, IsDue, IsNothing};
+ghost use Rattle.cose_sift.specs.Walking.{IfSyntax, wanted_by, IsDue, IsSound, IsNothing};
 
 use ciborium_ll::Header;
 use std::alloc::Global;
@@ -119,6 +119,7 @@ impl Walk {
     pub fn new(alloc: Global, most: usize) -> Walk
         ensures starts { Goes Item (wanted_by result) [] }
         ensures due { IsDue result }
+        ensures sound { IsSound result }
     {
         Walk {
             holds: None,
@@ -132,6 +133,7 @@ impl Walk {
     pub fn restart(&mut self)
         ensures starts { Goes Item (wanted_by self.new) [] }
         ensures due { IsDue self.new }
+        ensures sound { IsSound self.new }
     {
         self.holds = None;
         self.due = 1;
@@ -157,6 +159,7 @@ impl Walk {
             (Then (Long (body_of header)) (wanted_by self.new)) title) }
         ensures syntax { IfErr result (IfSyntax ((title : List ℕ) → Title title header
             → Refuses (wanted_by self.old) title)) }
+        ensures sound { OnOk result (IsSound self.old → IsSound self.new) }
     {
         if self.due > 0 {
             return self.take_item(header);
@@ -176,6 +179,7 @@ impl Walk {
             (Then (Long (body_of header)) (wanted_by self.new)) title) }
         ensures syntax { IfErr result (IfSyntax ((title : List ℕ) → Title title header
             → Refuses (wanted_by self.old) title)) }
+        ensures sound { OnOk result (IsSound self.old → IsSound self.new) }
     {
         self.due -= 1;
         match next_of(header) {
@@ -230,6 +234,7 @@ impl Walk {
             → Goes (wanted_by self.old) (Then (Long 0) (wanted_by self.new)) title) }
         ensures syntax { IfErr result (IfSyntax ((title : List ℕ) → Title title Break
             → Refuses (wanted_by self.old) title)) }
+        ensures sound { OnOk result (IsSound self.old → IsSound self.new) }
     {
         let Some(level) = self.levels.pop() else {
             return Err(Fault::Syntax);
@@ -249,6 +254,7 @@ impl Walk {
         ensures due { OnOk result (0 < self.new.due) }
         ensures syntax { IfErr result (IfSyntax ((title : List ℕ) → Title title header
             → Refuses (wanted_by self.old) title)) }
+        ensures sound { OnOk result (IsSound self.old → IsSound self.new) }
     {
         let Some(holds) = self.holds else {
             return Err(Fault::Syntax);

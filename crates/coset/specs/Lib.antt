@@ -34,7 +34,7 @@ pub use Rattle.coset_base.specs.LimitsView
 pub use Rattle.coset_base.specs.Names
 pub use Rattle.coset_base.specs.Orders
 pub use Rattle.coset_base.specs.Reading
-pub use Rattle.coset_base.specs.Told
+pub use Rattle.coset_base.specs.ErrorContent
 pub use Rattle.coset_base.specs.LabelView
 pub use Rattle.coset_base.specs.CoseError
 pub use Rattle.coset_base.specs.EndOfFile

@@ -30,7 +30,7 @@ pub use Rattle.coset_labels.specs.Limits as LimitsView
 pub use Rattle.coset_labels.specs.Names
 pub use Rattle.coset_labels.specs.Orders
 pub use Rattle.coset_labels.specs.Reading
-pub use Rattle.coset_labels.specs.Told
+pub use Rattle.coset_labels.specs.ErrorContent
 pub use Rattle.coset_labels.specs.View as LabelView
 pub use Rattle.coset_labels.specs.declared.error.CoseError
 pub use Rattle.coset_labels.specs.declared.error.EndOfFile

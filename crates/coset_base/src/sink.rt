@@ -93,7 +93,7 @@ fn put_alg<S: Sink>(alg: &Option<Algorithm>, to: &mut S) -> Result<(), S::Error>
     }
 }
 
-/// The names of a list, which has a beginning already.
+/// Writes the names of a list whose beginning was written.
 fn put_names<S: Sink>(
     names: &[RegisteredLabelWithPrivate<iana::HeaderParameter>],
     to: &mut S,
@@ -201,7 +201,7 @@ fn put_strings<S: Sink>(header: &Header, to: &mut S) -> Result<(), S::Error>
     put_bytes(6, &header.partial_iv, to)
 }
 
-/// The label of counter signatures, and the beginning of their list if there are several.
+/// Writes the label of counter signatures, and the beginning of their list if there are several.
 #[tactic(auto, using(crate::proofs::Events::several_begun, crate::proofs::Events::one_begun, coset_headers::proofs::Empty::full_by))]
 fn begin_counter<S: Sink>(signatures: &[CoseSignature], to: &mut S) -> Result<(), S::Error>
     ensures ok { OnOk result (Puts S.due to.old
@@ -247,7 +247,7 @@ fn count_entries(header: &Header) -> usize
         + rest.len()
 }
 
-/// A header up to its counter signatures.
+/// Writes a header up to its counter signatures.
 #[tactic(auto, using(crate::proofs::Events::begun_opened))]
 #[inline(never)]
 fn begin_header<S: Sink>(header: &Header, to: &mut S) -> Result<(), S::Error>
@@ -320,7 +320,7 @@ pub fn put_signature<S: Sink>(signature: &CoseSignature, to: &mut S) -> Result<(
     to.bytes(&signature.signature)
 }
 
-/// Signatures one after another.
+/// Writes signatures one after another.
 #[cycle(put)]
 fn put_each<S: Sink>(signatures: &[CoseSignature], to: &mut S) -> Result<(), S::Error>
     requires { AllReceived (signatures_view signatures.now) }

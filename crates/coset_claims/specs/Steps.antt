@@ -52,7 +52,7 @@ pub record Known (es : List (Named × Tree)) (c : ClaimsFields) : Type 0 where
   pub distinct : Distinct es
   pub claims : IsClaims es c
 
--- and so are the names that were seen
+-- the same, and the names that were seen are those of these entries
 abbrev pub KnownIn : List (Named × Tree) → SeenLabels ClaimName → ClaimsSet → Type 0
 KnownIn = walks.KnownIn Sees (λ fs c. Known fs (claims_view c))
 

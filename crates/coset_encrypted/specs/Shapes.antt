@@ -11,6 +11,6 @@ use Rattle.coset_encrypted.specs.Fields.{Encrypt0Fields, EncryptFields}
 abbrev pub HasEncrypt0 : ℕ → Tree → Encrypt0Fields → ℕ → Type 0
 HasEncrypt0 n t m k = HasWhole n t (parts m.protected m.unprotected m.ciphertext) [] k
 
--- the same, and an array of recipients
+-- an array of these three, and an array of recipients
 abbrev pub HasEncrypt : ℕ → Tree → EncryptFields → ℕ → Type 0
 HasEncrypt n t m k = HasWhole n t (parts m.protected m.unprotected m.ciphertext) ((λ r. HasList n r m.recipients k) ∷ []) k

@@ -10,6 +10,6 @@ use Rattle.coset_recipients.specs.Wrong.{WrongList}
 abbrev pub WrongEncrypt0 : ℕ → Tree → ℕ → CoseFault → Type 0
 WrongEncrypt0 n t k e = WrongWhole n t [] k e
 
--- the same, or its recipients
+-- the same, or a fault of its recipients
 abbrev pub WrongEncrypt : ℕ → Tree → ℕ → CoseFault → Type 0
 WrongEncrypt n t k e = WrongWhole n t ((λ r f. WrongList n r k f) ∷ []) k e

@@ -15,7 +15,7 @@ use coset_labels::tuples::three;
 use coset_labels::{
     AsCborValue, CborSerializable, CoseError, Limits, TaggedCborSerializable, ValueTryAs,
 };
-use coset_recipients::{Parts, read_parts, write_parts};
+use coset_recipients::{PartValues, Parts, write_parts};
 use std::alloc::Global;
 
 /// The elements are read from the last to the first.
@@ -67,7 +67,12 @@ impl CoseEncrypt0 {
         let items = value.try_as_array()?;
         match three(items) {
             Some((protected, unprotected, ciphertext)) => {
-                let parts = read_parts(alloc, protected, unprotected, ciphertext, limits, "bstr")?;
+                let values = PartValues {
+                    protected,
+                    unprotected,
+                    content: ciphertext,
+                };
+                let parts = values.read(alloc, limits, "bstr")?;
                 Ok(CoseEncrypt0 {
                     protected: parts.protected,
                     unprotected: parts.unprotected,

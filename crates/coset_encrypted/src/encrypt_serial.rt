@@ -15,7 +15,7 @@ use coset_labels::tuples::four;
 use coset_labels::{
     AsCborValue, CborSerializable, CoseError, Limits, TaggedCborSerializable, ValueTryAs,
 };
-use coset_recipients::{Parts, read_parts, read_recipients, write_parts, write_recipients};
+use coset_recipients::{PartValues, Parts, read_recipients, write_parts, write_recipients};
 use std::alloc::Global;
 
 /// The elements are read from the last to the first, and the recipients from the first to the last.
@@ -71,7 +71,12 @@ impl CoseEncrypt {
         match four(items) {
             Some((protected, unprotected, ciphertext, list)) => {
                 let recipients = read_recipients(alloc, list, limits)?;
-                let parts = read_parts(alloc, protected, unprotected, ciphertext, limits, "bstr")?;
+                let values = PartValues {
+                    protected,
+                    unprotected,
+                    content: ciphertext,
+                };
+                let parts = values.read(alloc, limits, "bstr")?;
                 Ok(CoseEncrypt {
                     protected: parts.protected,
                     unprotected: parts.unprotected,

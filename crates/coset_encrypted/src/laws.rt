@@ -55,8 +55,8 @@ pub fn written_has_same()
         → encrypt_tree m ≡ Some u → HasEncrypt n u m k }
 {}
 
-/// So are the bytes: the encoding of what is written nests no deeper than what was read, and is
-/// read again with the same fields.
+/// The encoding of what is written nests no deeper than what was read, and is read again with the
+/// same fields.
 pub fn written_reads_same()
     ensures encrypt0 { (n k limit : ℕ) (b : List ℕ) (t u : Tree) (m : Encrypt0Fields)
         → Reads b limit t → HasEncrypt0 n t m k → encrypt0_tree m ≡ Some u → Fits u

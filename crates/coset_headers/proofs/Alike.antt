@@ -105,7 +105,7 @@ last_set : {A : Type 0} (xs : List A) (x y : A) → set (xs ++ x ∷ []) (length
 last_set [] x y = refl
 last_set (z ∷ zs) x y = ap (λ w. z ∷ w) (last_set zs x y)
 
--- one more signature is copied: x was appended, and became z and then y
+-- one more signature is copied: the copy x was appended, and then replaced by z and by y
 pub copied_more : (base xs pushed : List CoseSignature) (from : List CoseSignature) (i n m : ℕ) (x z y s : CoseSignature) → pushed ≡ xs ++ x ∷ [] → n ≡ length xs → m ≡ length xs
     → map signature_view xs ≡ map signature_view base ++ map signature_view (take i from) → i < length from → s ≡ get_or from i s → signature_view y ≡ signature_view s
     → map signature_view (set (set pushed n z) m y) ≡ map signature_view base ++ map signature_view (take (i + 1) from)
@@ -116,7 +116,7 @@ copied_more base xs pushed from i n m x z y s p q r inv h g e =
     ∙ append_assoc (map signature_view base) (map signature_view (take i from)) (signature_view (get_or from i s) ∷ [])
     ∙ ap (λ z. map signature_view base ++ z) (sym (map-append signature_view (take i from) (get_or from i s ∷ [])) ∙ ap (map signature_view) (sym (take_more from i s h)))
 
--- what is at the end, before and after it was replaced
+-- the last signature, before and after it was replaced
 pub last_of : (xs pushed : List CoseSignature) (x d : CoseSignature) (n : ℕ) → pushed ≡ xs ++ x ∷ [] → n ≡ length xs → get_or pushed n d ≡ x
 last_of xs pushed x d n p q = (λ i. get_or (p i) (q i) d) ∙ get_or-append_seam xs x [] d
 

@@ -69,7 +69,7 @@ abbrev pub values_at : ℕ → ℕ → List (LabelFields × Tree) → List (Opti
 values_at zero n es = []
 values_at (suc f) n es = at n es ∷ values_at f (suc n) es
 
--- those with one more entry
+-- the values of the fields, with one more entry
 abbrev values_with : ℕ → ℕ → List (LabelFields × Tree) → LabelFields → Tree → List (Option Tree)
 values_with zero n es m v = []
 values_with (suc f) n es m v = cond (is_at n m) (Some v) (at n es) ∷ values_with f (suc n) es m v

@@ -71,7 +71,7 @@ module _ (n k : ℕ) (es : List (LabelFields × Tree)) (p : Plain) (ss : Signatu
   pub fresh_signs : m ≡ number (pos 7) → b ≡ is_unsigned ss → IsFresh m es s b
   fresh_signs q e = fresh_value 7 (at 7 es) q refl refl (e ∙ signs_test n k (at 7 es) ss w.signed)
 
--- ---- a label without one
+-- ---- a label without a field of its own
 others_by : (x : LabelFields × Tree) (es : List (LabelFields × Tree)) (b : Bool) → is_core x.0 ≡ b → others (x ∷ es) ≡ cond b (others es) (x ∷ others es)
 others_by x es b e = ap (λ z. cond {A = List (LabelFields × Tree)} z (others es) (x ∷ others es)) e
 
@@ -120,7 +120,7 @@ more_none : (few more rest : List (LabelFields × Tree)) → rest ≡ few ++ mor
 more_none few more rest q h (inr e) = e
 more_none few more rest q h (inl e) = let a = ap length q in let b = length-append few more in absurd (omega (arith, a, b, e, h))
 
--- there is no more than the first 64
+-- there are fewer than 64 labels without a field: none is in the set
 pub few_fresh : (s : SeenLabels Label) (rest : List (LabelFields × Tree)) (m : LabelFields) → SeesMany s rest → length rest < 64 → (v : Tree) → SeesMany s (rest ++ (m, v) ∷ [])
 few_fresh s rest m g h v =
     let none = more_none g.few g.more rest g.are h g.full in
@@ -141,11 +141,11 @@ module _ (s : SeenLabels Label) (rest : List (LabelFields × Tree)) (m : LabelFi
   front_is : take 64 rest ≡ g.few
   front_is = ap (take 64) g.are ∙ take_front g.few g.more 64 full_front
 
-  -- it is among the first
+  -- the label is among the first 64
   pub front_again : IsIn m (take 64 rest) → IsIn m rest
   front_again p = subst (IsIn m) (sym g.are) (in_front m g.few g.more (subst (IsIn m) front_is p))
 
-  -- it is not, and was looked for among the others
+  -- the label is not among the first 64, and was looked for in the set of the others
   pub more_fresh : (new : SeenLabels Label) (b : Bool) → (IsIn m (take 64 rest) → ⊥)
       → MatchBool b ((IsIn m g.more → ⊥) × ((v : Tree) → SeesLabels new (g.more ++ (m, v) ∷ []))) (IsIn m g.more × SeesLabels new g.more)
       → MatchBool b ((IsIn m rest → ⊥) × ((v : Tree) → SeesMany new (rest ++ (m, v) ∷ []))) (IsIn m rest)

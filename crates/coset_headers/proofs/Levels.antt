@@ -26,8 +26,10 @@ use Rattle.coset_headers.proofs.Fresh.{sees_none, known_none}
 use Rattle.coset_headers.specs.declared.header.Header.{Header}
 use Rattle.coset_headers.specs.declared.reader.Half.{Half}
 use Rattle.coset_headers.specs.declared.reader.Half.TheVariants as half
+use Rattle.coset_headers.specs.declared.reader.HeaderReader.{HeaderReader}
 use Rattle.coset_headers.specs.declared.reader.Level.{Level}
 use Rattle.coset_headers.specs.declared.reader.Open.{Open}
+use Rattle.coset_headers.specs.declared.reader.SignatureList.{SignatureList}
 use Rattle.coset_headers.specs.declared.reader.Signing.{Signing}
 use Rattle.coset_headers.proofs.Entered.{entries_snoc}
 use Rattle.coset_headers.proofs.Steps.{passed_on, known_signed, signed_one, signed_all, sigs_snoc}
@@ -103,9 +105,9 @@ signed_wrong : (n : ℕ) (t : Tree) (o : Open) (h : Header) (v : Tree) (e : Cose
 signed_wrong n t o h v e g w = subst (λ z. WrongHeader n z o.layers e) (sym g.is)
     (at_entry g.before (map view_pair (into_iter_items o.entries)) g.key v g.es o.layers e g.read_before (bad_signatures g.es g.key v o.layers g.label e g.label_is g.fresh g.signs w))
 
-next_wrong : (n k : ℕ) (v s : Tree) (done : List CoseSignature) (left : List Value) (e : CoseFault) → IsNext n k v s done left → WrongSignature n s k e → WrongSigned n v k e
-next_wrong n k v s done left e (alone ts q b r d l) w = subst (λ z. WrongSigned n z k e) (sym q) (in_bare ts k e b (subst (λ z. WrongSignature n z k e) r w))
-next_wrong n k v s done left e (listed before q l d) w = subst (λ z. WrongSigned n z k e) (sym q) (in_list before (map view left) s k e l w)
+next_wrong : (n k : ℕ) (v s : Tree) (g : SignatureList) (e : CoseFault) → IsNext n k v s g → WrongSignature n s k e → WrongSigned n v k e
+next_wrong n k v s g e (alone ts q b r d l) w = subst (λ z. WrongSigned n z k e) (sym q) (in_bare ts k e b (subst (λ z. WrongSignature n z k e) r w))
+next_wrong n k v s g e (listed before q l d) w = subst (λ z. WrongSigned n z k e) (sym q) (in_list before (map view (into_iter_items g.left)) s k e l w)
 
 half_wrong : (n k : ℕ) (s : Tree) (c : List ℕ) (f : Half) (w : Tree) (i : ℕ) (e : CoseFault) → IsHalf n k s c f w i → WrongHeader n w i e → WrongSignature n s k e
 half_wrong n k s c (half.Unprotected first) w i e h x = subst (λ z. WrongSignature n z k e) (sym h.0) (in_unprotected (view first) w (bytes c) k e (subst (λ z. WrongHeader n w z e) h.1 x))
@@ -116,7 +118,7 @@ half_wrong n k s c (half.Protected u b) w i e h x =
 pub around_wrong : (n : ℕ) (t : Tree) (o : Open) (h : Header) (g : Signing) (w : Tree) (i : ℕ) (e : CoseFault) → Around n t o h g w i → WrongHeader n w i e → WrongHeader n t o.layers e
 around_wrong n t o h g w i e r x =
     signed_wrong n t o h r.value e r.signed
-    (next_wrong n o.layers r.value r.signature g.done.items (into_iter_items g.items) e r.next (half_wrong n o.layers r.signature g.signature.items g.half w i e r.half x))
+    (next_wrong n o.layers r.value r.signature g.list e r.next (half_wrong n o.layers r.signature g.signature.items g.half w i e r.half x))
 
 within_wrong_by : (n : ℕ) (t : Tree) (k : ℕ) (ls : List Level) (u : Tree) (j : ℕ) (e : CoseFault) → Within n t k ls u j → WrongHeader n u j e → WrongHeader n t k e
 within_wrong_by n t k [] u j e p x = subst (λ z. WrongHeader n z k e) p.0 (subst (λ z. WrongHeader n u z e) p.1 x)
@@ -143,33 +145,34 @@ levels_pushed [] l = omega arith
 levels_pushed (m ∷ ms) l = let h = levels_pushed ms l in omega (arith, h)
 
 -- ---- counter signatures one after another
-pub first_alone : (n k : ℕ) (v : Tree) (ts : Trees) (done : List CoseSignature) (left : List Value) → v ≡ array ts → IsBare ts → done ≡ [] → left ≡ [] → IsNext n k v (array ts) done left
-first_alone n k v ts done left q b d l = alone ts q b refl d l
+pub first_alone : (n k : ℕ) (v : Tree) (ts : Trees) (g : SignatureList) → v ≡ array ts → IsBare ts → g.done.items ≡ [] → into_iter_items g.left ≡ [] → IsNext n k v (array ts) g
+first_alone n k v ts g q b d l = alone ts q b refl d l
 
-pub first_listed : (n k : ℕ) (v : Tree) (items left : List Value) (x : Value) (done : List CoseSignature) → v ≡ array (views items) → IsList (views items) → items ≡ x ∷ left → done ≡ []
-    → IsNext n k v (view x) done left
-first_listed n k v items left x done q l e d =
+pub first_listed : (n k : ℕ) (v : Tree) (items : List Value) (x : Value) (g : SignatureList) → v ≡ array (views items) → IsList (views items) → items ≡ x ∷ into_iter_items g.left → g.done.items ≡ []
+    → IsNext n k v (view x) g
+first_listed n k v items x g q l e d =
     listed [] (q ∙ ap (λ z. array (views z)) e) (subst (λ z. IsList (views z)) e l) (subst (λ z. HasSignatures n no_trees (signatures_view z) k) (sym d) refl)
 
-pub next_more : (n k : ℕ) (v s : Tree) (done news : List CoseSignature) (left rest : List Value) (x : Value) (c : CoseSignature) → IsNext n k v s done left → left ≡ x ∷ rest
-    → HasSignature n s (signature_view c) k → news ≡ done ++ c ∷ [] → IsNext n k v (view x) news rest
-next_more n k v s done news left rest x c (alone ts q b r d l) e h f = let g : [] ≡ x ∷ rest = sym l ∙ e in cc
-next_more n k v s done news left rest x c (listed before q l d) e h f =
-    let same : before ++ s ∷ map view left ≡ (before ++ s ∷ []) ++ view x ∷ map view rest =
+pub next_more : (n k : ℕ) (v s : Tree) (g f : SignatureList) (x : Value) (c : CoseSignature) → IsNext n k v s g → into_iter_items g.left ≡ x ∷ into_iter_items f.left
+    → HasSignature n s (signature_view c) k → f.done.items ≡ g.done.items ++ c ∷ [] → IsNext n k v (view x) f
+next_more n k v s g f x c (alone ts q b r d l) e h m = let y : [] ≡ x ∷ into_iter_items f.left = sym l ∙ e in cc
+next_more n k v s g f x c (listed before q l d) e h m =
+    let rest = into_iter_items f.left in
+    let same : before ++ s ∷ map view (into_iter_items g.left) ≡ (before ++ s ∷ []) ++ view x ∷ map view rest =
     ap (λ z. before ++ s ∷ map view z) e ∙ sym (append_assoc before (s ∷ []) (view x ∷ map view rest)) in
     listed (before ++ s ∷ []) (q ∙ ap (λ z. array (trees z)) same) (subst (λ z. IsList (trees z)) same l)
-    (subst (λ z. HasSignatures n (trees (before ++ s ∷ [])) z k) (ap signatures (sym (map-append signature_view done (c ∷ []))) ∙ ap signatures_view (sym f))
-    (sigs_snoc n before s (map signature_view done) (signature_view c) k d h))
+    (subst (λ z. HasSignatures n (trees (before ++ s ∷ [])) z k) (ap signatures (sym (map-append signature_view g.done.items (c ∷ []))) ∙ ap signatures_view (sym m))
+    (sigs_snoc n before s (map signature_view g.done.items) (signature_view c) k d h))
 
-pub next_done : (n k : ℕ) (v s : Tree) (done news : List CoseSignature) (left : List Value) (c : CoseSignature) → IsNext n k v s done left → left ≡ []
-    → HasSignature n s (signature_view c) k → news ≡ done ++ c ∷ [] → HasSigned n (Some v) (signatures_view news) k
-next_done n k v s done news left c (alone ts q b r d l) e h f =
+pub next_done : (n k : ℕ) (v s : Tree) (g : SignatureList) (news : List CoseSignature) (c : CoseSignature) → IsNext n k v s g → into_iter_items g.left ≡ []
+    → HasSignature n s (signature_view c) k → news ≡ g.done.items ++ c ∷ [] → HasSigned n (Some v) (signatures_view news) k
+next_done n k v s g news c (alone ts q b r d l) e h f =
     signed_one n v ts ts (signatures_view news) (signature_view c) k q b (ap signatures_view (f ∙ ap (λ z. z ++ c ∷ []) d)) (subst (λ z. HasSignature n z (signature_view c) k) r h)
-next_done n k v s done news left c (listed before q l d) e h f =
-    let same : before ++ s ∷ map view left ≡ before ++ s ∷ [] = ap (λ z. before ++ s ∷ map view z) e in
+next_done n k v s g news c (listed before q l d) e h f =
+    let same : before ++ s ∷ map view (into_iter_items g.left) ≡ before ++ s ∷ [] = ap (λ z. before ++ s ∷ map view z) e in
     signed_all n v (trees (before ++ s ∷ [])) (signatures_view news) k (q ∙ ap (λ z. array (trees z)) same) (subst (λ z. IsList (trees z)) same l)
-    (subst (λ z. HasSignatures n (trees (before ++ s ∷ [])) z k) (ap signatures (sym (map-append signature_view done (c ∷ []))) ∙ ap signatures_view (sym f))
-    (sigs_snoc n before s (map signature_view done) (signature_view c) k d h))
+    (subst (λ z. HasSignatures n (trees (before ++ s ∷ [])) z k) (ap signatures (sym (map-append signature_view g.done.items (c ∷ []))) ∙ ap signatures_view (sym f))
+    (sigs_snoc n before s (map signature_view g.done.items) (signature_view c) k d h))
 
 -- ---- the headers of one signature
 pub half_more : (n k : ℕ) (s : Tree) (c : List ℕ) (first : Value) (w : Tree) (i : ℕ) (h : Header) (b : Vec ℕ Global) (x : Tree) → IsHalf n k s c (half.Unprotected first) w i
@@ -188,52 +191,58 @@ half_empty n k s c first b w i h f g q p m =
 
 -- ---- faults and steps of the whole
 -- a fault of the signature that is next
-pub signature_wrong : (n k : ℕ) (t v s : Tree) (below : List Level) (top : Open) (h : Header) (done : List CoseSignature) (left : List Value) (e : CoseError) → ReadingSigned n t k below top h v
-    → IsNext n top.layers v s done left → OrMemory (WrongSignature n s top.layers) e → OrMemory (WrongHeader n t k) e
-signature_wrong n k t v s below top h done left e r x w = within_wrong n t k below r.inner top.layers e r.within
-    (passed_on (WrongSignature n s top.layers) (WrongHeader n r.inner top.layers) e (λ y. signed_wrong n r.inner top h v (fault_of e) r.signed (next_wrong n top.layers v s done left (fault_of e) x y)) w)
+pub signature_wrong : (n k : ℕ) (t v s : Tree) (a : HeaderReader) (h : Header) (g : SignatureList) (e : CoseError) → ReadingSigned n k t a h v
+    → IsNext n a.top.layers v s g → OrMemory (WrongSignature n s a.top.layers) e → OrMemory (WrongHeader n t k) e
+signature_wrong n k t v s a h g e r x w = within_wrong n t k a.below.items r.inner a.top.layers e r.within
+    (passed_on (WrongSignature n s a.top.layers) (WrongHeader n r.inner a.top.layers) e
+    (λ y. signed_wrong n r.inner a.top h v (fault_of e) r.signed (next_wrong n a.top.layers v s g (fault_of e) x y)) w)
 
 -- a fault of the counter signatures
-pub signatures_wrong : (n k : ℕ) (t v : Tree) (below : List Level) (top : Open) (h : Header) (e : CoseError) → ReadingSigned n t k below top h v → OrMemory (WrongSigned n v top.layers) e → OrMemory (WrongHeader n t k) e
-signatures_wrong n k t v below top h e r w = within_wrong n t k below r.inner top.layers e r.within
-    (passed_on (WrongSigned n v top.layers) (WrongHeader n r.inner top.layers) e (λ y. signed_wrong n r.inner top h v (fault_of e) r.signed y) w)
+pub signatures_wrong : (n k : ℕ) (t v : Tree) (a : HeaderReader) (h : Header) (e : CoseError) → ReadingSigned n k t a h v → OrMemory (WrongSigned n v a.top.layers) e → OrMemory (WrongHeader n t k) e
+signatures_wrong n k t v a h e r w = within_wrong n t k a.below.items r.inner a.top.layers e r.within
+    (passed_on (WrongSigned n v a.top.layers) (WrongHeader n r.inner a.top.layers) e (λ y. signed_wrong n r.inner a.top h v (fault_of e) r.signed y) w)
 
 -- the unprotected header of the next signature is inside
-pub begins : (n k : ℕ) (t v s w : Tree) (below : List Level) (top : Open) (h : Header) (g : Signing) → ReadingSigned n t k below top h v → IsNext n top.layers v s g.done.items (into_iter_items g.items)
-    → IsHalf n top.layers s g.signature.items g.half w top.layers → ReadingInside n t k below top h g w top.layers
-begins n k t v s w below top h g r x q = record { inner = r.inner; within = r.within; around = record { value = v; signature = s; signed = r.signed; next = x; half = q } }
+pub begins : (n k : ℕ) (t v s w : Tree) (a : HeaderReader) (h : Header) (g : Signing) → ReadingSigned n k t a h v → IsNext n a.top.layers v s g.list
+    → IsHalf n a.top.layers s g.signature.items g.half w a.top.layers → ReadingInside n k t a h g w a.top.layers
+begins n k t v s w a h g r x q = record {
+  nesting = r.nesting;
+  inner = r.inner;
+  within = r.within;
+  around = record { value = v; signature = s; signed = r.signed; next = x; half = q };
+}
 
 -- the counter signature in which the header is that is read
-pub signs_of_inside : (n k : ℕ) (t w : Tree) (i : ℕ) (below : List Level) (top : Open) (h : Header) (g : Signing) (r : ReadingInside n t k below top h g w i) → ReadingSigned n t k below top h r.around.value
-signs_of_inside n k t w i below top h g r = record { inner = r.inner; within = r.within; signed = r.around.signed }
+pub signs_of_inside : (n k : ℕ) (t w : Tree) (i : ℕ) (a : HeaderReader) (h : Header) (g : Signing) (r : ReadingInside n k t a h g w i) → ReadingSigned n k t a h r.around.value
+signs_of_inside n k t w i a h g r = record { nesting = r.nesting; inner = r.inner; within = r.within; signed = r.around.signed }
 
 -- a fault of its protected header, after the unprotected one
-pub protected_wrong : (n k : ℕ) (t w : Tree) (i : ℕ) (below : List Level) (top : Open) (u : Header) (g : Signing) (first : Value) (e : CoseError) → ReadingInside n t k below top u g w i → g.half ≡ half.Unprotected first
-    → OrMemory (WrongProtected n (view first) top.layers) e → OrMemory (WrongHeader n t k) e
-protected_wrong n k t w i below top u g first e r q x =
-    let h = subst (λ z. IsHalf n top.layers r.around.signature g.signature.items z w i) q r.around.half in
-    signature_wrong n k t r.around.value r.around.signature below top u g.done.items (into_iter_items g.items) e (signs_of_inside n k t w i below top u g r) r.around.next
-    (passed_on (WrongProtected n (view first) top.layers) (WrongSignature n r.around.signature top.layers) e
-    (λ y. subst (λ z. WrongSignature n z top.layers (fault_of e)) (sym h.0) (in_protected (view first) w (bytes g.signature.items) top.layers (fault_of e) y)) x)
+pub protected_wrong : (n k : ℕ) (t w : Tree) (i : ℕ) (a : HeaderReader) (u : Header) (g : Signing) (first : Value) (e : CoseError) → ReadingInside n k t a u g w i → g.half ≡ half.Unprotected first
+    → OrMemory (WrongProtected n (view first) a.top.layers) e → OrMemory (WrongHeader n t k) e
+protected_wrong n k t w i a u g first e r q x =
+    let h = subst (λ z. IsHalf n a.top.layers r.around.signature g.signature.items z w i) q r.around.half in
+    signature_wrong n k t r.around.value r.around.signature a u g.list e (signs_of_inside n k t w i a u g r) r.around.next
+    (passed_on (WrongProtected n (view first) a.top.layers) (WrongSignature n r.around.signature a.top.layers) e
+    (λ y. subst (λ z. WrongSignature n z a.top.layers (fault_of e)) (sym h.0) (in_protected (view first) w (bytes g.signature.items) a.top.layers (fault_of e) y)) x)
 
 -- its protected header is read after the unprotected one
-pub turns : (n k : ℕ) (t w x : Tree) (i : ℕ) (below : List Level) (top : Open) (u : Header) (g f : Signing) (first : Value) (h : Header) (b : Vec ℕ Global) → ReadingInside n t k below top u g w i → g.half ≡ half.Unprotected first
-    → HasHeader n w (header_view h) i → view first ≡ bytes b.items → 0 < top.layers → b.items ≢ [] → Reads b.items n x
-    → f.items ≡ g.items → f.done ≡ g.done → f.signature ≡ g.signature → f.half ≡ half.Protected h b → ReadingInside n t k below top u f x (top.layers - 1)
-turns n k t w x i below top u g f first h b r q a v p m d fi fd fs fh =
-    let old = subst (λ z. IsHalf n top.layers r.around.signature g.signature.items z w i) q r.around.half in
+pub turns : (n k : ℕ) (t w x : Tree) (i : ℕ) (a : HeaderReader) (u : Header) (g f : Signing) (first : Value) (h : Header) (b : Vec ℕ Global) → ReadingInside n k t a u g w i → g.half ≡ half.Unprotected first
+    → HasHeader n w (header_view h) i → view first ≡ bytes b.items → 0 < a.top.layers → b.items ≢ [] → Reads b.items n x
+    → f.list ≡ g.list → f.signature ≡ g.signature → f.half ≡ half.Protected h b → ReadingInside n k t a u f x (a.top.layers - 1)
+turns n k t w x i a u g f first h b r q y v p m d fl fs fh =
+    let old = subst (λ z. IsHalf n a.top.layers r.around.signature g.signature.items z w i) q r.around.half in
     record {
+      nesting = r.nesting;
       inner = r.inner;
       within = r.within;
       around = record {
         value = r.around.value;
         signature = r.around.signature;
         signed = r.around.signed;
-        next = subst (λ z. IsNext n top.layers r.around.value r.around.signature z.items (into_iter_items f.items)) (sym fd)
-            (subst (λ z. IsNext n top.layers r.around.value r.around.signature g.done.items (into_iter_items z)) (sym fi) r.around.next);
-        half = subst (λ z. IsHalf n top.layers r.around.signature z.items f.half x (top.layers - 1)) (sym fs)
-            (subst (λ z. IsHalf n top.layers r.around.signature g.signature.items z x (top.layers - 1)) (sym fh)
-            (half_more n top.layers r.around.signature g.signature.items first w i h b x old a v p m d));
+        next = subst (λ z. IsNext n a.top.layers r.around.value r.around.signature z) (sym fl) r.around.next;
+        half = subst (λ z. IsHalf n a.top.layers r.around.signature z.items f.half x (a.top.layers - 1)) (sym fs)
+            (subst (λ z. IsHalf n a.top.layers r.around.signature g.signature.items z x (a.top.layers - 1)) (sym fh)
+            (half_more n a.top.layers r.around.signature g.signature.items first w i h b x old y v p m d));
       };
     }
 
@@ -252,9 +261,13 @@ outermost n k t u below j h p e x =
     subst (λ z. HasHeader n z h k) q.0 (subst (λ z. HasHeader n u h z) q.1 x)
 
 -- a level is closed: the header in it is inside the one around
-pub closes : (n k : ℕ) (t u : Tree) (old new : List Level) (l : Level) (top : Open) (h : Header) (j : ℕ) → Within n t k old u j → old ≡ new ++ l ∷ [] → top ≡ l.left → h ≡ l.header
-    → ReadingInside n t k new top h l.signing u j
-closes n k t u old new l top h j p e q f =
-    let r = within_popped n t k new l u j (subst (λ z. Within n t k z u j) e p) in
-    subst (λ z. ReadingInside n t k new top z l.signing u j) (sym f)
-    (subst (λ z. ReadingInside n t k new z l.header l.signing u j) (sym q) (record { inner = r.0; within = r.1; around = r.2 }))
+pub closes : (n k : ℕ) (t u : Tree) (old : List Level) (l : Level) (a : HeaderReader) (h : Header) (j : ℕ) → a.nesting ≡ n → Within n t k old u j → old ≡ a.below.items ++ l ∷ [] → a.top ≡ l.left → h ≡ l.header
+    → ReadingInside n k t a h l.signing u j
+closes n k t u old l a h j m p e q f =
+    let r = within_popped n t k a.below.items l u j (subst (λ z. Within n t k z u j) e p) in
+    record {
+      nesting = m;
+      inner = r.0;
+      within = subst (λ z. Within n t k a.below.items r.0 z.layers) (sym q) r.1;
+      around = subst (λ z. Around n r.0 a.top z l.signing u j) (sym f) (subst (λ z. Around n r.0 z l.header l.signing u j) (sym q) r.2);
+    }

@@ -1,5 +1,7 @@
 pub mod Again
 pub mod Alike
+pub mod Canonical
+pub mod CanonicalSteps
 pub mod Empty
 pub mod Entered
 pub mod Excludes
@@ -16,8 +18,6 @@ pub mod SameParts
 pub mod Signed
 pub mod Small
 pub mod Sound
-pub mod Standing
-pub mod Stands
 pub mod Steps
 pub mod Unique
 pub mod Unset

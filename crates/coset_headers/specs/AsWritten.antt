@@ -20,30 +20,30 @@ is_several (one_more t (one_more u us)) = true
 is_several _ = false
 
 abbrev mutual
-  pub header_stands : Tree → Bool
-  header_stands (map_tree ps) = entries_stand 1 ps
-  header_stands _ = false
+  pub is_canonical_header : Tree → Bool
+  is_canonical_header (map_tree ps) = are_canonical_entries 1 ps
+  is_canonical_header _ = false
 
-  -- after an entry at the place `last`
-  pub entries_stand : ℕ → Pairs → Bool
-  entries_stand last no_pairs = true
-  entries_stand last (pair_more l v ps) = if nat_lt (place_of l) last then false
-      else ((if nat_eq (place_of l) 7 then signed_stand v else true) && entries_stand (place_of l) ps)
+  -- the entries after one at the place `last`
+  pub are_canonical_entries : ℕ → Pairs → Bool
+  are_canonical_entries last no_pairs = true
+  are_canonical_entries last (pair_more l v ps) = if nat_lt (place_of l) last then false
+      else ((if nat_eq (place_of l) 7 then are_canonical_counter_signatures v else true) && are_canonical_entries (place_of l) ps)
 
-  -- counter signatures
-  pub signed_stand : Tree → Bool
-  signed_stand (array ts) = if is_bare ts then elements_stand ts else (is_several ts && signatures_stand ts)
-  signed_stand _ = false
+  -- the value of counter signatures: one by itself, or a list
+  pub are_canonical_counter_signatures : Tree → Bool
+  are_canonical_counter_signatures (array ts) = if is_bare ts then are_canonical_elements ts else (is_several ts && are_canonical_signatures ts)
+  are_canonical_counter_signatures _ = false
 
-  pub signatures_stand : Trees → Bool
-  signatures_stand no_trees = true
-  signatures_stand (one_more t ts) = signature_stands t && signatures_stand ts
+  pub are_canonical_signatures : Trees → Bool
+  are_canonical_signatures no_trees = true
+  are_canonical_signatures (one_more t ts) = is_canonical_signature t && are_canonical_signatures ts
 
-  pub signature_stands : Tree → Bool
-  signature_stands (array ts) = elements_stand ts
-  signature_stands _ = false
+  pub is_canonical_signature : Tree → Bool
+  is_canonical_signature (array ts) = are_canonical_elements ts
+  is_canonical_signature _ = false
 
   -- the elements of a signature: the second is its unprotected header
-  pub elements_stand : Trees → Bool
-  elements_stand (one_more a (one_more b ts)) = header_stands b
-  elements_stand _ = false
+  pub are_canonical_elements : Trees → Bool
+  are_canonical_elements (one_more a (one_more b ts)) = is_canonical_header b
+  are_canonical_elements _ = false

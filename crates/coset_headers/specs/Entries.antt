@@ -17,7 +17,7 @@ abbrev pub AllFit : List (LabelFields × Tree) → Type 0
 AllFit [] = Unit {0}
 AllFit (e ∷ es) = Fits (label_tree e.0) × Fits e.1 × AllFit es
 
--- and so do these values
+-- the value of a field, if it is there, fits heads
 abbrev pub ValueFits : Option Tree → Type 0
 ValueFits None = Unit {0}
 ValueFits (Some t) = Fits t

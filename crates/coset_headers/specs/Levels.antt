@@ -4,7 +4,6 @@ use Rattle.std.specs.Prelude.{◌≡◌, ◌≢◌, ℕ, ◌+◌, ◌-◌, ◌*�
 use Rattle.std.specs.Vec.Iter.{into_iter_items}
 use Rattle.ciborium_value.specs.Tree.{Tree, bytes, array, map as map_tree, Trees}
 use Rattle.ciborium_value.specs.View.{trees, pairs, view, views, view_pair, view_pairs}
-use Rattle.ciborium_value.specs.declared.value.Value.{Value}
 use Rattle.ciborium.specs.Front.{Reads}
 use Rattle.coset_labels.specs.Fields.{LabelFields}
 use Rattle.coset_labels.specs.Labels.{label_of}
@@ -12,12 +11,13 @@ use Rattle.coset_headers.specs.Headers.{is_at, entries, IsIn, IsBare, IsList, li
 use Rattle.coset_headers.specs.Parts.{plain_of, signs_of, Sees, Known, KnownIn}
 use Rattle.coset_headers.specs.View.{header_view, signatures_view}
 use Rattle.coset_headers.specs.Weight.{weight, weight_all, weight_pairs}
-use Rattle.coset_headers.specs.declared.header.CoseSignature.{CoseSignature}
 use Rattle.coset_headers.specs.declared.header.Header.{Header}
 use Rattle.coset_headers.specs.declared.reader.Half.{Half}
 use Rattle.coset_headers.specs.declared.reader.Half.TheVariants as half
+use Rattle.coset_headers.specs.declared.reader.HeaderReader.{HeaderReader}
 use Rattle.coset_headers.specs.declared.reader.Level.{Level}
 use Rattle.coset_headers.specs.declared.reader.Open.{Open}
+use Rattle.coset_headers.specs.declared.reader.SignatureList.{SignatureList}
 use Rattle.coset_headers.specs.declared.reader.Signing.{Signing}
 
 -- ---- one open header
@@ -46,10 +46,10 @@ pub record Signed (n : ℕ) (t : Tree) (o : Open) (h : Header) (v : Tree) : Type
 -- ---- the header that one inside it belongs to
 -- s is the one of the counter signatures v that comes after those that are done, and before those
 -- that are left
-pub data IsNext (n k : ℕ) (v s : Tree) (done : List CoseSignature) (left : List Value) : Type 0 where
-  alone : (ts : Trees) → v ≡ array ts → IsBare ts → s ≡ array ts → done ≡ [] → left ≡ [] → IsNext n k v s done left
-  listed : (before : List Tree) → v ≡ array (trees (before ++ s ∷ map view left)) → IsList (trees (before ++ s ∷ map view left))
-      → HasSignatures n (trees before) (signatures_view done) k → IsNext n k v s done left
+pub data IsNext (n k : ℕ) (v s : Tree) (g : SignatureList) : Type 0 where
+  alone : (ts : Trees) → v ≡ array ts → IsBare ts → s ≡ array ts → g.done.items ≡ [] → into_iter_items g.left ≡ [] → IsNext n k v s g
+  listed : (before : List Tree) → v ≡ array (trees (before ++ s ∷ map view (into_iter_items g.left))) → IsList (trees (before ++ s ∷ map view (into_iter_items g.left)))
+      → HasSignatures n (trees before) (signatures_view g.done.items) k → IsNext n k v s g
 
 -- w, to be read with i layers, is the unprotected header of the signature s, or the one inside its
 -- protected one; c is its signature
@@ -63,7 +63,7 @@ pub record Around (n : ℕ) (t : Tree) (o : Open) (h : Header) (g : Signing) (w 
   pub value : Tree
   pub signature : Tree
   pub signed : Signed n t o h value
-  pub next : IsNext n o.layers value signature g.done.items (into_iter_items g.items)
+  pub next : IsNext n o.layers value signature g.list
   pub half : IsHalf n o.layers signature g.signature.items g.half w i
 
 -- u, to be read with j layers, lies inside t as the levels say, and is t itself without any
@@ -72,23 +72,27 @@ Within n t k [] u j = (u ≡ t) × (j ≡ k)
 Within n t k (l ∷ ls) u j = (w : Tree) × (i : ℕ) × (l.left.layers ≡ k) × Around n t l.left l.header l.signing w i × Within n w i ls u j
 
 -- ---- the whole
--- the innermost header is being read
-pub record Reading (n : ℕ) (t : Tree) (k : ℕ) (below : List Level) (top : Open) (h : Header) : Type 0 where
+-- of the header t, to be read with k layers, the reader is in the innermost that is open, whose
+-- fields so far are those of h
+pub record Reading (n k : ℕ) (t : Tree) (r : HeaderReader) (h : Header) : Type 0 where
+  pub nesting : r.nesting ≡ n
   pub inner : Tree
-  pub within : Within n t k below inner top.layers
-  pub going : Going n inner top h
+  pub within : Within n t k r.below.items inner r.top.layers
+  pub going : Going n inner r.top h
 
--- its counter signatures are next
-pub record ReadingSigned (n : ℕ) (t : Tree) (k : ℕ) (below : List Level) (top : Open) (h : Header) (v : Tree) : Type 0 where
+-- the counter signatures of the innermost header are read next
+pub record ReadingSigned (n k : ℕ) (t : Tree) (r : HeaderReader) (h : Header) (v : Tree) : Type 0 where
+  pub nesting : r.nesting ≡ n
   pub inner : Tree
-  pub within : Within n t k below inner top.layers
-  pub signed : Signed n inner top h v
+  pub within : Within n t k r.below.items inner r.top.layers
+  pub signed : Signed n inner r.top h v
 
--- a header of one of these is next
-pub record ReadingInside (n : ℕ) (t : Tree) (k : ℕ) (below : List Level) (top : Open) (h : Header) (g : Signing) (w : Tree) (i : ℕ) : Type 0 where
+-- a header of a counter signature of the innermost header is read next
+pub record ReadingInside (n k : ℕ) (t : Tree) (r : HeaderReader) (h : Header) (g : Signing) (w : Tree) (i : ℕ) : Type 0 where
+  pub nesting : r.nesting ≡ n
   pub inner : Tree
-  pub within : Within n t k below inner top.layers
-  pub around : Around n inner top h g w i
+  pub within : Within n t k r.below.items inner r.top.layers
+  pub around : Around n inner r.top h g w i
 
 -- ---- what is still to be read
 abbrev pub open_left : Open → ℕ
@@ -98,12 +102,15 @@ abbrev pub half_left : Half → ℕ
 half_left (half.Unprotected first) = weight (view first)
 half_left (half.Protected h b) = 0
 
+abbrev pub signatures_left : SignatureList → ℕ
+signatures_left g = weight_all (views (into_iter_items g.left))
+
 abbrev pub signing_left : Signing → ℕ
-signing_left g = weight_all (views (into_iter_items g.items)) + half_left g.half
+signing_left g = signatures_left g.list + half_left g.half
 
 abbrev pub levels_left : List Level → ℕ
 levels_left [] = 0
 levels_left (l ∷ ls) = open_left l.left + signing_left l.signing + levels_left ls
 
-abbrev pub work : List Level → Open → ℕ
-work below top = 2 * (levels_left below + open_left top) + length below
+abbrev pub work : HeaderReader → ℕ
+work r = 2 * (levels_left r.below.items + open_left r.top) + length r.below.items

@@ -7,7 +7,6 @@ pub mod Fields
 pub mod Headers
 pub mod Levels
 pub mod Parts
-pub mod Places
 pub mod Same
 pub mod Short
 pub mod View

@@ -17,6 +17,8 @@ use Rattle.coset_headers.specs.Fields.{Plain, Signatures}
 use Rattle.coset_headers.specs.Headers.{is_core, alg_of, crit_of, HasContentType, at, others, IsIn, Distinct, IsPlain, HasSigned}
 use Rattle.coset_headers.specs.View.{plain_parts, signatures_view}
 use Rattle.coset_headers.specs.Wrong.{WrongField}
+use Rattle.coset_headers.specs.declared.fields.Place.{Place}
+use Rattle.coset_headers.specs.declared.fields.Place.TheVariants as place
 use Rattle.coset_headers.specs.declared.header.Header.{Header, out-Header}
 
 -- the labels of these entries, and no others, were seen
@@ -32,7 +34,7 @@ pub record SeesMany (s : SeenLabels Label) (es : List (LabelFields × Tree)) : T
   pub full : (length few ≡ 64) ⊎ (more ≡ [])
   pub sees : SeesLabels s more
 
--- and so were those of the labels without a field among these entries
+-- the labels without a field of their own among these entries, and no others, were seen
 abbrev pub Sees : SeenLabels Label → List (LabelFields × Tree) → Type 0
 Sees s es = SeesMany s (others es)
 
@@ -52,7 +54,7 @@ pub record Known (n : ℕ) (es : List (LabelFields × Tree)) (p : Plain) (ss : S
   pub plain : IsPlain es p
   pub signed : HasSigned n (at 7 es) ss k
 
--- and so are the labels that were seen
+-- the same, and the labels that were seen are those of these entries
 abbrev pub KnownIn : ℕ → List (LabelFields × Tree) → SeenLabels Label → Header → ℕ → Type 0
 KnownIn n es s p k = walks.KnownIn Sees (λ fs q. Known n fs (plain_of q) (signs_of q) k) es s p
 
@@ -82,3 +84,14 @@ pub data WrongFill (l : LabelFields) (v : Tree) (p : Plain) (e : CoseFault) : Ty
       → e ≡ unexpected → WrongFill l v p e
   partial_iv_second : (b : List ℕ) → l ≡ number (pos 6) → some_bytes v ≡ Some b → p.iv ≢ []
       → e ≡ unexpected → WrongFill l v p e
+
+-- the place in a header that a label names (RFC 9052, section 3.1)
+abbrev pub Names : Place → LabelFields → Type 0
+Names place.Alg l = l ≡ number (pos 1)
+Names place.Crit l = l ≡ number (pos 2)
+Names place.ContentType l = l ≡ number (pos 3)
+Names place.KeyId l = l ≡ number (pos 4)
+Names place.Iv l = l ≡ number (pos 5)
+Names place.PartialIv l = l ≡ number (pos 6)
+Names place.CounterSignatures l = l ≡ number (pos 7)
+Names place.Rest l = is_core l ≡ false

@@ -20,7 +20,7 @@ same_tree t s = is_eq (tree_cmp t s)
 abbrev pub same_entry : LabelFields × Tree → LabelFields × Tree → Bool
 same_entry d e = is_eq (label_cmp d.0 e.0) && same_tree d.1 e.1
 
--- the fields of a header but its counter signatures
+-- two headers have the same fields, but for their counter signatures
 abbrev pub same_plain : Plain → Plain → Bool
 same_plain p q = option_eq same_name p.alg q.alg && pointwise same_name p.crit q.crit && option_eq same_name p.content_type q.content_type
     && pointwise nat_eq p.key_id q.key_id && pointwise nat_eq p.iv q.iv && pointwise nat_eq p.partial_iv q.partial_iv
@@ -30,7 +30,7 @@ abbrev mutual
   pub same_header : HeaderFields → HeaderFields → Bool
   same_header (header p ss) (header q us) = same_plain p q && same_signatures ss us
 
-  -- received bytes are compared beside the headers
+  -- the same received bytes, and the same header
   pub same_protected : ProtectedFields → ProtectedFields → Bool
   same_protected (protected o h) (protected u g) = option_eq (pointwise nat_eq) o u && same_header h g
 

@@ -2,9 +2,11 @@
 ghost use Rattle.std.specs.Prelude.{◌≡◌, refl};
 ghost use Rattle.ciborium_value.specs.View.{view, views, view_pairs};
 ghost use Rattle.coset_labels.specs.Limits.{nesting, layers};
-ghost use Rattle.coset_headers.specs.AsWritten.{place_of, header_stands, entries_stand};
-ghost use Rattle.coset_headers.specs.AsWritten.{signed_stand, signatures_stand, signature_stands};
-ghost use Rattle.coset_headers.specs.AsWritten.{elements_stand};
+ghost use Rattle.coset_headers.specs.AsWritten.{place_of, is_canonical_header};
+ghost use Rattle.coset_headers.specs.AsWritten.{are_canonical_entries};
+ghost use Rattle.coset_headers.specs.AsWritten.{are_canonical_counter_signatures};
+ghost use Rattle.coset_headers.specs.AsWritten.{are_canonical_signatures, is_canonical_signature};
+ghost use Rattle.coset_headers.specs.AsWritten.{are_canonical_elements};
 ghost use Rattle.coset_headers.specs.Fields.{HeaderFields, SignatureFields};
 ghost use Rattle.coset_headers.specs.Headers.{HasHeader, HasSignature};
 ghost use Rattle.coset_headers.specs.Written.{header_tree, signature_tree};
@@ -24,7 +26,7 @@ impl AsWritten for Header {
     ghost tree_of = { header_tree };
 
     fn is_as_written(value: &Value) -> bool {
-        header_stands(value)
+        is_canonical_header(value)
     }
 
     ghost read = { λ t x s. (nesting, layers, x, s, refl) };
@@ -39,25 +41,25 @@ impl AsWritten for CoseSignature {
     ghost tree_of = { signature_tree };
 
     fn is_as_written(value: &Value) -> bool {
-        signature_stands(value)
+        is_canonical_signature(value)
     }
 
     ghost read = { λ t x s. (nesting, layers, x, s, refl) };
 }
 
-#[cycle(stands)]
-fn header_stands(value: &Value) -> bool
-    ensures { result ≡ header_stands (view value.now) }
+#[cycle(canonical)]
+fn is_canonical_header(value: &Value) -> bool
+    ensures { result ≡ is_canonical_header (view value.now) }
 {
     match value {
-        Value::Map(entries) => entries_stand(entries),
+        Value::Map(entries) => are_canonical_entries(entries),
         _ => false,
     }
 }
 
-#[cycle(stands)]
-fn entries_stand(entries: &[(Value, Value)]) -> bool
-    ensures { result ≡ entries_stand 1 (view_pairs entries.now) }
+#[cycle(canonical)]
+fn are_canonical_entries(entries: &[(Value, Value)]) -> bool
+    ensures { result ≡ are_canonical_entries 1 (view_pairs entries.now) }
 {
     let mut last = 1;
     'entries: for entry in entries {
@@ -65,7 +67,7 @@ fn entries_stand(entries: &[(Value, Value)]) -> bool
         if place < last {
             return false;
         }
-        if place == 7 && !signed_stand(&entry.1) {
+        if place == 7 && !are_canonical_counter_signatures(&entry.1) {
             return false;
         }
         last = place;
@@ -88,16 +90,16 @@ fn place_of(key: &Value) -> u8
 }
 
 /// Counter signatures: one by itself, or a list of two and more.
-#[cycle(stands)]
-fn signed_stand(value: &Value) -> bool
-    ensures { result ≡ signed_stand (view value.now) }
+#[cycle(canonical)]
+fn are_canonical_counter_signatures(value: &Value) -> bool
+    ensures { result ≡ are_canonical_counter_signatures (view value.now) }
 {
     match value {
         Value::Array(items) => {
             if is_one_signature(items) {
-                elements_stand(items)
+                are_canonical_elements(items)
             } else {
-                items.len() > 1 && signatures_stand(items)
+                items.len() > 1 && are_canonical_signatures(items)
             }
         }
         _ => false,
@@ -105,12 +107,12 @@ fn signed_stand(value: &Value) -> bool
 }
 
 /// Whether the values of signatures are as they would be written.
-#[cycle(stands)]
-pub fn signatures_stand(items: &[Value]) -> bool
-    ensures { result ≡ signatures_stand (views items.now) }
+#[cycle(canonical)]
+pub fn are_canonical_signatures(items: &[Value]) -> bool
+    ensures { result ≡ are_canonical_signatures (views items.now) }
 {
     'items: for item in items {
-        if !signature_stands(item) {
+        if !is_canonical_signature(item) {
             return false;
         }
     }
@@ -119,24 +121,24 @@ pub fn signatures_stand(items: &[Value]) -> bool
 
 /// Whether the value of a signature, or another array whose second element is an unprotected
 /// header, is as it would be written.
-#[cycle(stands)]
-pub fn signature_stands(value: &Value) -> bool
-    ensures { result ≡ signature_stands (view value.now) }
+#[cycle(canonical)]
+pub fn is_canonical_signature(value: &Value) -> bool
+    ensures { result ≡ is_canonical_signature (view value.now) }
 {
     match value {
-        Value::Array(items) => elements_stand(items),
+        Value::Array(items) => are_canonical_elements(items),
         _ => false,
     }
 }
 
 /// Whether the second of the elements of a signature or a message, its unprotected header, is as it
 /// would be written.
-#[cycle(stands)]
-pub fn elements_stand(items: &[Value]) -> bool
-    ensures { result ≡ elements_stand (views items.now) }
+#[cycle(canonical)]
+pub fn are_canonical_elements(items: &[Value]) -> bool
+    ensures { result ≡ are_canonical_elements (views items.now) }
 {
     match items {
-        [_, unprotected, ..] => header_stands(unprotected),
+        [_, unprotected, ..] => is_canonical_header(unprotected),
         _ => false,
     }
 }

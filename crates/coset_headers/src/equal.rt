@@ -89,7 +89,8 @@ fn same_fields(a: &CoseSignature, b: &CoseSignature) -> bool
         && a.signature == b.signature
 }
 
-/// What a level keeps on the stack is small.
+/// Whether the signatures of two lists are equal. It recurses by levels, each of which keeps little
+/// on the stack.
 #[cycle(equality)]
 fn same_signatures(a: &[CoseSignature], b: &[CoseSignature]) -> bool
     ensures { result ≡ same_signatures (signatures_view a.now) (signatures_view b.now) }

@@ -1,6 +1,7 @@
-//! What goes over the fields of a header one by one.
-ghost use Rattle.std.specs.Prelude.{◌≡◌, ◌+◌, ◌^◌, ◌<◌, ℕ, List, length, false};
-ghost use Rattle.std.specs.Prelude.{Some, IfOk, MatchResult};
+//! What goes over the fields of a header one by one: which label has which, and what is done with
+//! each.
+ghost use Rattle.std.specs.Prelude.{◌≡◌, ◌+◌, ◌^◌, ◌<◌, ◌++◌, ℕ, List, [], ◌∷◌, length, map, false};
+ghost use Rattle.std.specs.Prelude.{Some, IfOk, MatchBool, MatchResult};
 ghost use Rattle.ciborium_value.specs.Tree.{Tree};
 ghost use Rattle.ciborium_value.specs.View.{view, views};
 ghost use Rattle.coset_labels.specs.Faults.{OrMemory, CantWrite, fault_of, unexpected};
@@ -10,12 +11,11 @@ ghost use Rattle.coset_labels.specs.declared.error.CoseError.TheVariants.{Memory
 ghost use Rattle.coset_headers.specs.Copies.{unsigned_header};
 ghost use Rattle.coset_headers.specs.Entries.{AllFit, ValuesFit};
 ghost use Rattle.coset_headers.specs.Fields.{plain_part, no_header};
-ghost use Rattle.coset_headers.specs.Headers.{is_at};
-ghost use Rattle.coset_headers.specs.Parts.{plain_of, signs_of, IsFresh, Known, Filled, Sees};
-ghost use Rattle.coset_headers.specs.Parts.{WrongFill};
-ghost use Rattle.coset_headers.specs.Places.{Names};
+ghost use Rattle.coset_headers.specs.Headers.{is_at, IsIn};
+ghost use Rattle.coset_headers.specs.Parts.{plain_of, signs_of, IsFresh, Known, Filled, Names};
+ghost use Rattle.coset_headers.specs.Parts.{Sees, SeesMany, WrongFill};
 ghost use Rattle.coset_headers.specs.Same.{same_plain};
-ghost use Rattle.coset_headers.specs.View.{header_view};
+ghost use Rattle.coset_headers.specs.View.{entry_view, header_view};
 ghost use Rattle.coset_headers.specs.Written.{header_of, is_empty, values_of};
 
 use crate::copies::{clone_content_type, clone_crit};
@@ -24,7 +24,6 @@ use crate::entries::{
 };
 use crate::fits::{alg_fits, content_type_fits, crit_fits, rest_fits};
 use crate::header::Header;
-use crate::parts::{Place, is_new_among};
 use crate::values::{read_content_type, read_crit};
 use crate::writer::is_unsigned;
 use ciborium_value::Value;
@@ -33,6 +32,48 @@ use coset_labels::{
     Algorithm, AsCborValue, CoseError, Label, SeenLabels, ValueTryAs, clone_entries, clone_key,
 };
 use std::alloc::{AllocError, Global};
+
+/// How many labels without a field of their own are compared one by one. Those that come after are
+/// looked for in a set, so that time grows as n log n.
+const FEW: usize = 64;
+
+/// Where the value of an entry belongs.
+#[derive(Clone, Copy)]
+pub(crate) enum Place {
+    Alg,
+    Crit,
+    ContentType,
+    KeyId,
+    Iv,
+    PartialIv,
+    CounterSignatures,
+    Rest,
+}
+
+impl Place {
+    /// Whether counter signatures belong there.
+    pub(crate) fn is_counter_signatures(self) -> bool
+        ensures { (l : LabelFields) → Names self l → result ≡ is_at 7 l }
+    {
+        matches!(self, Place::CounterSignatures)
+    }
+}
+
+/// Where the value of this label belongs (RFC 9052, section 3.1).
+pub(crate) fn place_of(label: &Label) -> Place
+    ensures { Names result (label_view label.now) }
+{
+    match label {
+        Label::Int(1) => Place::Alg,
+        Label::Int(2) => Place::Crit,
+        Label::Int(3) => Place::ContentType,
+        Label::Int(4) => Place::KeyId,
+        Label::Int(5) => Place::Iv,
+        Label::Int(6) => Place::PartialIv,
+        Label::Int(7) => Place::CounterSignatures,
+        _ => Place::Rest,
+    }
+}
 
 impl Header {
     /// A header with no field. It takes no memory.
@@ -255,4 +296,40 @@ fn two_ivs() -> CoseError
         "IV and partial-IV specified",
         "only one of IV and partial IV",
     )
+}
+
+/// Whether one of these entries has the label.
+fn is_among(entries: &[(Label, Value)], label: &Label) -> bool
+    ensures { MatchBool result (IsIn (label_view label.now) (map entry_view entries.now))
+        (IsIn (label_view label.now) (map entry_view entries.now) → ⊥) }
+{
+    'entries: for entry in entries {
+        if entry.0 == *label {
+            return true;
+        }
+    }
+    false
+}
+
+/// Whether no entry of these had the label. The set holds the labels after the first ones, and then
+/// this one too.
+pub(crate) fn is_new_among(
+    alloc: Global,
+    rest: &[(Label, Value)],
+    seen: &mut SeenLabels<Label>,
+    label: &Label,
+) -> Result<bool, CoseError>
+    ensures { SeesMany seen.old (map entry_view rest.now) → MatchResult result
+        (λ fresh. MatchBool fresh ((IsIn (label_view label.now) (map entry_view rest.now) → ⊥)
+        × ((v : Tree) → SeesMany seen.new
+        (map entry_view rest.now ++ (label_view label.now, v) ∷ [])))
+        (IsIn (label_view label.now) (map entry_view rest.now))) (λ e. e ≡ Memory) }
+{
+    if rest.len() < FEW {
+        return Ok(!is_among(rest, label));
+    }
+    if is_among(&rest[..FEW], label) {
+        return Ok(false);
+    }
+    seen.add(alloc, label)
 }

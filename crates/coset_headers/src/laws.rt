@@ -72,8 +72,8 @@ pub fn written_has_same()
         → signature_tree s ≡ Some u → HasSignature n u s k }
 {}
 
-/// So are the bytes: the encoding of what is written nests no deeper than what was read, and is
-/// read again with the same fields.
+/// The encoding of what is written nests no deeper than what was read, and is read again with the
+/// same fields.
 pub fn written_reads_same()
     ensures header { (n k limit : ℕ) (b : List ℕ) (t u : Tree) (h : HeaderFields) → Reads b limit t
         → HasHeader n t h k
@@ -92,7 +92,7 @@ pub fn read_is_short()
         → SignatureShort s }
 {}
 
-/// So is what is written in fewer than 2^64 bytes, with or without received bytes.
+/// What is written in fewer than 2^64 bytes is short, with or without received bytes.
 pub fn small_is_short()
     ensures header { (h : HeaderFields) (u : Tree) → header_tree h ≡ Some u
         → length (enc u) < 2 ^ 64 → IsShort h }

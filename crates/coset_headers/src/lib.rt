@@ -9,13 +9,14 @@ mod fields;
 mod fits;
 mod header;
 pub mod laws;
-mod parts;
 mod reader;
 mod serial;
 mod values;
 mod writer;
 
-pub use crate::as_written::{elements_stand, signature_stands, signatures_stand};
+pub use crate::as_written::{
+    are_canonical_elements, are_canonical_signatures, is_canonical_signature,
+};
 pub use crate::entries::{push_bytes, push_rest, repeats};
 pub use crate::header::{CoseSignature, Header, ProtectedHeader};
 pub use crate::writer::show_protected;

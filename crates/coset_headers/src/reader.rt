@@ -13,13 +13,14 @@ ghost use Rattle.coset_labels.specs.declared.error.CoseError.TheVariants.{Memory
 ghost use Rattle.coset_headers.specs.Fields.{no_header, protected};
 ghost use Rattle.coset_headers.specs.Headers.{HasHeader, HasProtected, HasSignature, list_of_three};
 ghost use Rattle.coset_headers.specs.Levels.{Going, Signed, IsNext, Reading, ReadingSigned};
-ghost use Rattle.coset_headers.specs.Levels.{ReadingInside, open_left, signing_left, work};
+ghost use Rattle.coset_headers.specs.Levels.{ReadingInside, open_left, signatures_left};
+ghost use Rattle.coset_headers.specs.Levels.{signing_left, work};
 ghost use Rattle.coset_headers.specs.View.{header_view, protected_view, signature_view};
 ghost use Rattle.coset_headers.specs.Weight.{weight, weight_all, weight_pairs};
 ghost use Rattle.coset_headers.specs.Wrong.{WrongHeader, WrongProtected, WrongSignature};
 
+use crate::fields::place_of;
 use crate::header::{CoseSignature, Header, ProtectedHeader};
-use crate::parts::place_of;
 use crate::values::is_bare;
 use ciborium_value::Value;
 use coset_labels::tuples::three;
@@ -37,12 +38,17 @@ pub(crate) struct Open {
     layers: usize,
 }
 
-/// Counter signatures of which one is being read: the values that come after it, the signatures
-/// before it, and its own bytes and half.
+/// Counter signatures of one header: the values of those that are left, and those that are done.
+#[derive(Drop)]
+pub(crate) struct SignatureList {
+    left: IntoIter<Value>,
+    done: Vec<CoseSignature>,
+}
+
+/// Counter signatures of which one is being read: the others, and its own bytes and half.
 #[derive(Drop)]
 pub(crate) struct Signing {
-    items: IntoIter<Value>,
-    done: Vec<CoseSignature>,
+    list: SignatureList,
     signature: Vec<u8>,
     half: Half,
 }
@@ -62,6 +68,16 @@ pub(crate) struct Level {
     left: Open,
     header: Header,
     signing: Signing,
+}
+
+/// Reads a header and those inside it: what is left of the innermost, and the headers that wait for
+/// it, the outermost first. The fields of the innermost are filled where the caller wants them.
+#[derive(Drop)]
+pub(crate) struct HeaderReader {
+    alloc: Global,
+    nesting: usize,
+    below: Vec<Level>,
+    top: Open,
 }
 
 impl Open {
@@ -137,8 +153,7 @@ pub(crate) fn fill_header(
     fill_entries(alloc, entries, nesting, layers, into)
 }
 
-/// Reads the header of these entries into an empty one, by a loop over the headers inside one
-/// another.
+/// Reads the header of these entries into an empty one.
 fn fill_entries(
     alloc: Global,
     entries: Vec<(Value, Value)>,
@@ -151,210 +166,195 @@ fn fill_entries(
         (λ _. HasHeader nesting (spec.map (view_pairs entries.items)) (header_view into.new) layers)
         (λ e. OrMemory (WrongHeader nesting (spec.map (view_pairs entries.items)) layers) e) }
 {
-    let mut below: Vec<Level> = Vec::new(alloc);
-    let mut top = Open::new(alloc, entries, layers);
-    'turns: loop {
-        match top.next_signed(alloc, into)? {
-            Some(value) => begin_signatures(alloc, &mut below, &mut top, into, value)?,
-            None => match below.pop() {
-                None => return Ok(()),
-                Some(
-                    Level {
-                        left,
-                        header,
-                        signing,
-                    },
-                ) => {
-                    top = left;
-                    let whole = mem::replace(into, header);
-                    close(alloc, nesting, &mut below, &mut top, into, signing, whole)?;
-                }
-            },
-        }
-    }
-}
-
-/// Begins counter signatures of the innermost header: one by itself, or a list.
-fn begin_signatures(
-    alloc: Global,
-    below: &mut Vec<Level>,
-    top: &mut Open,
-    into: &mut Header,
-    value: Value,
-) -> Result<(), CoseError>
-    ensures read { (n k : ℕ) (t : Tree)
-        → ReadingSigned n t k below.old.items top.old into.old (view value) → MatchResult result
-        (λ _. Reading n t k below.new.items top.new into.new)
-        (λ e. OrMemory (WrongHeader n t k) e) }
-    ensures left { OnOk result (work below.new.items top.new
-        < work below.old.items top.old + 2 * weight (view value)) }
-{
-    let items = value.try_as_array()?;
-    let done = Vec::new(alloc);
-    if is_bare(&items)? {
-        let none = Vec::new(alloc).into_iter();
-        return begin(alloc, below, top, into, Value::Array(items), none, done);
-    }
-    let mut items = items.into_iter();
-    match items.next() {
-        Some(first) => begin(alloc, below, top, into, first, items, done),
-        None => unreachable!(),
-    }
-}
-
-/// Begins a counter signature of the innermost header, after those that are done: its unprotected
-/// header is the innermost then.
-fn begin(
-    alloc: Global,
-    below: &mut Vec<Level>,
-    top: &mut Open,
-    into: &mut Header,
-    item: Value,
-    items: IntoIter<Value>,
-    done: Vec<CoseSignature>,
-) -> Result<(), CoseError>
-    ensures read { (n k : ℕ) (t v : Tree) → ReadingSigned n t k below.old.items top.old into.old v
-        → IsNext n top.old.layers v (view item) done.items (into_iter_items items)
-        → MatchResult result (λ _. Reading n t k below.new.items top.new into.new)
-        (λ e. OrMemory (WrongHeader n t k) e) }
-    ensures left { OnOk result (work below.new.items top.new < work below.old.items top.old
-        + 2 * (weight (view item) + weight_all (views (into_iter_items items)))) }
-{
-    let (first, entries, signature) = split(item)?;
-    let layers = top.layers;
-    let half = Half::Unprotected(first);
-    let signing = Signing {
-        items,
-        done,
-        signature,
-        half,
+    let top = Open::new(alloc, entries, layers);
+    let mut reader = HeaderReader {
+        alloc,
+        nesting,
+        below: Vec::new(alloc),
+        top,
     };
-    descend(alloc, below, top, into, entries, layers, signing)
+    reader.read(into)
 }
 
-/// Opens a header inside the innermost one, which waits for it with its counter signatures.
-fn descend(
-    alloc: Global,
-    below: &mut Vec<Level>,
-    top: &mut Open,
-    into: &mut Header,
-    entries: Vec<(Value, Value)>,
-    layers: usize,
-    signing: Signing,
-) -> Result<(), CoseError>
-    ensures read { (n k : ℕ) (t : Tree)
-        → ReadingInside n t k below.old.items top.old into.old signing
-        (spec.map (view_pairs entries.items)) layers → MatchResult result
-        (λ _. Reading n t k below.new.items top.new into.new) (λ e. e ≡ Memory) }
-    ensures left { OnOk result (work below.new.items top.new ≡ work below.old.items top.old
-        + 2 * (weight_pairs (view_pairs entries.items) + signing_left signing) + 1) }
-{
-    let left = mem::replace(top, Open::new(alloc, entries, layers));
-    let header = mem::replace(into, Header::new(alloc));
-    below.push(Level {
-        left,
-        header,
-        signing,
-    })?;
-    Ok(())
-}
-
-/// Takes a header that is whole into the signature that waits for it in the innermost one: after
-/// the unprotected header comes the protected one, and then the signature is done.
-fn close(
-    alloc: Global,
-    nesting: usize,
-    below: &mut Vec<Level>,
-    top: &mut Open,
-    into: &mut Header,
-    signing: Signing,
-    header: Header,
-) -> Result<(), CoseError>
-    ensures read { (k i : ℕ) (t w : Tree)
-        → ReadingInside nesting t k below.old.items top.old into.old signing w i
-        → HasHeader nesting w (header_view header) i → MatchResult result
-        (λ _. Reading nesting t k below.new.items top.new into.new)
-        (λ e. OrMemory (WrongHeader nesting t k) e) }
-    ensures left { OnOk result (work below.new.items top.new
-        ≤ work below.old.items top.old + 2 * signing_left signing) }
-{
-    let Signing {
-        items,
-        done,
-        signature,
-        half,
-    } = signing;
-    match half {
-        Half::Protected(unprotected, bytes) => {
-            let protected = ProtectedHeader {
-                original_data: Some(bytes),
-                header,
-            };
-            let signature = CoseSignature {
-                protected,
-                unprotected,
-                signature,
-            };
-            finish(alloc, below, top, into, items, done, signature)
-        }
-        Half::Unprotected(first) => {
-            let (bytes, inside) = open_protected(alloc, first, nesting, top.layers)?;
-            match inside {
-                Some(entries) => {
-                    let layers = top.layers - 1;
-                    let half = Half::Protected(header, bytes);
-                    let signing = Signing {
-                        items,
-                        done,
-                        signature,
-                        half,
-                    };
-                    descend(alloc, below, top, into, entries, layers, signing)
-                }
-                None => {
-                    let protected = ProtectedHeader {
-                        original_data: Some(bytes),
-                        header: Header::new(alloc),
-                    };
-                    let signature = CoseSignature {
-                        protected,
-                        unprotected: header,
-                        signature,
-                    };
-                    finish(alloc, below, top, into, items, done, signature)
-                }
+impl HeaderReader {
+    /// Reads the rest of the outermost header, by a loop over the headers inside one another.
+    fn read(&mut self, into: &mut Header) -> Result<(), CoseError>
+        ensures { (n k : ℕ) (t : Tree) → Reading n k t self.old into.old → MatchResult result
+            (λ _. HasHeader n t (header_view into.new) k)
+            (λ e. OrMemory (WrongHeader n t k) e) }
+    {
+        'turns: loop {
+            match self.top.next_signed(self.alloc, into)? {
+                Some(value) => self.begin_signatures(into, value)?,
+                None => match self.below.pop() {
+                    None => return Ok(()),
+                    Some(
+                        Level {
+                            left,
+                            header,
+                            signing,
+                        },
+                    ) => {
+                        self.top = left;
+                        let whole = mem::replace(into, header);
+                        self.close(into, signing, whole)?;
+                    }
+                },
             }
         }
     }
-}
 
-/// Takes a signature that is done, and begins the next; after the last the innermost header has
-/// them all.
-fn finish(
-    alloc: Global,
-    below: &mut Vec<Level>,
-    top: &mut Open,
-    into: &mut Header,
-    items: IntoIter<Value>,
-    done: Vec<CoseSignature>,
-    signature: CoseSignature,
-) -> Result<(), CoseError>
-    ensures read { (n k : ℕ) (t v s : Tree) → ReadingSigned n t k below.old.items top.old into.old v
-        → IsNext n top.old.layers v s done.items (into_iter_items items)
-        → HasSignature n s (signature_view signature) top.old.layers → MatchResult result
-        (λ _. Reading n t k below.new.items top.new into.new)
-        (λ e. OrMemory (WrongHeader n t k) e) }
-    ensures left { OnOk result (work below.new.items top.new
-        ≤ work below.old.items top.old + 2 * weight_all (views (into_iter_items items))) }
-{
-    let mut done = done;
-    done.push(signature)?;
-    let mut items = items;
-    match items.next() {
-        Some(item) => begin(alloc, below, top, into, item, items, done),
-        None => {
-            into.counter_signatures = done;
-            Ok(())
+    /// Begins counter signatures of the innermost header: one by itself, or a list.
+    fn begin_signatures(&mut self, into: &mut Header, value: Value) -> Result<(), CoseError>
+        ensures read { (n k : ℕ) (t : Tree) → ReadingSigned n k t self.old into.old (view value)
+            → MatchResult result (λ _. Reading n k t self.new into.new)
+            (λ e. OrMemory (WrongHeader n t k) e) }
+        ensures left { OnOk result (work self.new < work self.old + 2 * weight (view value)) }
+    {
+        let items = value.try_as_array()?;
+        let done = Vec::new(self.alloc);
+        if is_bare(&items)? {
+            let left = Vec::new(self.alloc).into_iter();
+            return self.begin(into, Value::Array(items), SignatureList { left, done });
+        }
+        let mut left = items.into_iter();
+        match left.next() {
+            Some(first) => self.begin(into, first, SignatureList { left, done }),
+            None => unreachable!(),
+        }
+    }
+
+    /// Begins a counter signature of the innermost header, after those that are done: its
+    /// unprotected header is the innermost then.
+    fn begin(
+        &mut self,
+        into: &mut Header,
+        item: Value,
+        list: SignatureList,
+    ) -> Result<(), CoseError>
+        ensures read { (n k : ℕ) (t v : Tree) → ReadingSigned n k t self.old into.old v
+            → IsNext n self.old.top.layers v (view item) list → MatchResult result
+            (λ _. Reading n k t self.new into.new) (λ e. OrMemory (WrongHeader n t k) e) }
+        ensures left { OnOk result (work self.new
+            < work self.old + 2 * (weight (view item) + signatures_left list)) }
+    {
+        let (first, entries, signature) = split(item)?;
+        let layers = self.top.layers;
+        let signing = Signing {
+            list,
+            signature,
+            half: Half::Unprotected(first),
+        };
+        self.descend(into, entries, layers, signing)
+    }
+
+    /// Opens a header inside the innermost one, which waits for it with its counter signatures.
+    fn descend(
+        &mut self,
+        into: &mut Header,
+        entries: Vec<(Value, Value)>,
+        layers: usize,
+        signing: Signing,
+    ) -> Result<(), CoseError>
+        ensures read { (n k : ℕ) (t : Tree) → ReadingInside n k t self.old into.old signing
+            (spec.map (view_pairs entries.items)) layers → MatchResult result
+            (λ _. Reading n k t self.new into.new) (λ e. e ≡ Memory) }
+        ensures left { OnOk result (work self.new ≡ work self.old
+            + 2 * (weight_pairs (view_pairs entries.items) + signing_left signing) + 1) }
+    {
+        let left = mem::replace(&mut self.top, Open::new(self.alloc, entries, layers));
+        let header = mem::replace(into, Header::new(self.alloc));
+        self.below.push(Level {
+            left,
+            header,
+            signing,
+        })?;
+        Ok(())
+    }
+
+    /// Takes a header that is whole into the signature that waits for it in the innermost one:
+    /// after the unprotected header comes the protected one, and then the signature is done.
+    fn close(
+        &mut self,
+        into: &mut Header,
+        signing: Signing,
+        header: Header,
+    ) -> Result<(), CoseError>
+        ensures read { (n k i : ℕ) (t w : Tree)
+            → ReadingInside n k t self.old into.old signing w i
+            → HasHeader n w (header_view header) i → MatchResult result
+            (λ _. Reading n k t self.new into.new) (λ e. OrMemory (WrongHeader n t k) e) }
+        ensures left { OnOk result (work self.new ≤ work self.old + 2 * signing_left signing) }
+    {
+        let Signing {
+            list,
+            signature,
+            half,
+        } = signing;
+        let (first, unprotected) = match half {
+            Half::Protected(unprotected, bytes) => {
+                let protected = ProtectedHeader {
+                    original_data: Some(bytes),
+                    header,
+                };
+                let signature = CoseSignature {
+                    protected,
+                    unprotected,
+                    signature,
+                };
+                return self.finish(into, list, signature);
+            }
+            Half::Unprotected(first) => (first, header),
+        };
+        let (bytes, inside) = open_protected(self.alloc, first, self.nesting, self.top.layers)?;
+        match inside {
+            Some(entries) => {
+                let layers = self.top.layers - 1;
+                let signing = Signing {
+                    list,
+                    signature,
+                    half: Half::Protected(unprotected, bytes),
+                };
+                self.descend(into, entries, layers, signing)
+            }
+            None => {
+                let protected = ProtectedHeader {
+                    original_data: Some(bytes),
+                    header: Header::new(self.alloc),
+                };
+                let signature = CoseSignature {
+                    protected,
+                    unprotected,
+                    signature,
+                };
+                self.finish(into, list, signature)
+            }
+        }
+    }
+
+    /// Takes a signature that is done, and begins the next; after the last the innermost header has
+    /// them all.
+    fn finish(
+        &mut self,
+        into: &mut Header,
+        list: SignatureList,
+        signature: CoseSignature,
+    ) -> Result<(), CoseError>
+        ensures read { (n k : ℕ) (t v s : Tree) → ReadingSigned n k t self.old into.old v
+            → IsNext n self.old.top.layers v s list
+            → HasSignature n s (signature_view signature) self.old.top.layers
+            → MatchResult result (λ _. Reading n k t self.new into.new)
+            (λ e. OrMemory (WrongHeader n t k) e) }
+        ensures left { OnOk result (work self.new ≤ work self.old + 2 * signatures_left list) }
+    {
+        let SignatureList { mut left, mut done } = list;
+        done.push(signature)?;
+        match left.next() {
+            Some(item) => self.begin(into, item, SignatureList { left, done }),
+            None => {
+                into.counter_signatures = done;
+                Ok(())
+            }
         }
     }
 }

@@ -73,7 +73,7 @@ pub struct SuppPubInfoBuilder {
 }
 
 impl SuppPubInfoBuilder {
-    /// A builder of no bit of key and an empty header.
+    /// A builder of public information with a key of 0 bits and an empty protected header.
     pub fn new(alloc: Global) -> SuppPubInfoBuilder
         ensures { public_so_far result ≡ no_public }
     {

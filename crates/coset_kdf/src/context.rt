@@ -63,7 +63,7 @@ impl PartyInfo {
 }
 
 impl SuppPubInfo {
-    /// No bit of key, and an empty header. It takes no memory.
+    /// Public information with a key of 0 bits and an empty protected header. It takes no memory.
     pub fn new(alloc: Global) -> SuppPubInfo
         ensures { public_view result ≡ no_public }
     {

@@ -15,7 +15,7 @@ abbrev pub NamesFit : List Named → Type 0
 NamesFit [] = Unit {0}
 NamesFit (n ∷ ns) = Fits (named_tree n) × NamesFit ns
 
--- if they can be written
+-- each key that can be written fits heads
 abbrev pub KeysFit : List KeyFields → Type 0
 KeysFit [] = Unit {0}
 KeysFit (k ∷ ks) = ((t : Tree) → key_tree k ≡ Some t → Fits t) × KeysFit ks

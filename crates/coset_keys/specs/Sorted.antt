@@ -30,7 +30,7 @@ pub record Sorts (o : CborOrdering) (old new : List (LabelFields × Tree)) : Typ
   pub sorted : IsSorted (entry_cmp o) new
   pub stable : (e : LabelFields × Tree) → Contains old e → tied_with o e new ≡ tied_with o e old
 
--- the other fields stay
+-- the entries of `params` are sorted, and the other fields stay
 pub record Canonicalized (o : CborOrdering) (old new : KeyFields) : Type 0 where
   pub others : new ≡ record old { params = new.params }
   pub params : Sorts o old.params new.params

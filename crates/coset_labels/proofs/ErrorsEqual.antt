@@ -11,7 +11,7 @@ use Rattle.ciborium.specs.declared.de.Error.TheVariants as de
 use Rattle.coset_labels.specs.Facts.Equal.{both, plain_options}
 use Rattle.coset_labels.specs.Faults.{duplicate_key, unencodable, extraneous, out_of_range, unregistered, unregistered_private, no_memory, too_many_layers, CoseFault, undecodable, misplaced}
 use Rattle.coset_labels.specs.Reading.{NotReadable, damaged, goes_on}
-use Rattle.coset_labels.specs.Told.{failed, got, plainly, told}
+use Rattle.coset_labels.specs.ErrorContent.{failed, got, plainly, content_of}
 use Rattle.coset_labels.specs.declared.error.CoseError.{CoseError}
 use Rattle.coset_labels.specs.declared.error.CoseError.TheVariants as code
 use Rattle.coset_labels.specs.declared.error.EndOfFile.{EndOfFile}
@@ -112,7 +112,7 @@ damages de.TooLong de.RecursionLimitExceeded = (λ h. let k : false ≡ true = h
 damages de.TooLong de.Memory = (λ h. let k : false ≡ true = h in cc, λ h. let k : de.TooLong ≡ de.Memory = h in cc)
 damages de.TooLong de.TooLong = (λ h. refl, λ h. refl)
 
-pub errors : (x y : CoseError) → IsTrue (equality.eq-value.it x y) ↔ (told x ≡ told y)
+pub errors : (x y : CoseError) → IsTrue (equality.eq-value.it x y) ↔ (content_of x ≡ content_of y)
 errors (code.DecodeFailed e1) (code.DecodeFailed e2) = (λ h. ap failed ((damages e1 e2).0 h), λ h. let k : failed e1 ≡ failed e2 = h in let s : e1 ≡ e2 = cc in (damages e1 e2).1 s)
 errors (code.DecodeFailed e1) code.DuplicateMapKey = (λ h. let k : false ≡ true = h in cc, λ h. let k : failed e1 ≡ plainly duplicate_key = h in cc)
 errors (code.DecodeFailed e1) code.EncodeFailed = (λ h. let k : false ≡ true = h in cc, λ h. let k : failed e1 ≡ plainly unencodable = h in cc)

@@ -52,7 +52,7 @@ unwritten (ser.Io e) = code.EncodeFailed
 unwritten (ser.Value k) = code.EncodeFailed
 unwritten ser.Memory = code.Memory
 
--- out of memory, or the fault is wrong there
+-- the error is out of memory, or a fault of which `Wrong` holds
 abbrev pub OrMemory : (CoseFault → Type 0) → CoseError → Type 0
 OrMemory Wrong e = (e ≡ code.Memory) ⊎ Wrong (fault_of e)
 

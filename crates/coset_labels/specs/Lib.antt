@@ -1,6 +1,7 @@
 pub mod Arrays
 pub mod Converting
 pub mod Entries
+pub mod ErrorContent
 pub mod Facts
 pub mod Faults
 pub mod Fields
@@ -11,6 +12,5 @@ pub mod Names
 pub mod Orders
 pub mod Reading
 pub mod SeenLabels
-pub mod Told
 pub mod View
 pub mod Walks

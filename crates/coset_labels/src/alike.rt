@@ -2,7 +2,7 @@
 ghost use Rattle.std.specs.Prelude.{◌≡◌, ◌≢◌, ◌↔◌, ℕ, List, IsTrue};
 ghost use Rattle.coset_labels.specs.Faults.{CoseFault, misplaced};
 ghost use Rattle.coset_labels.specs.Reading.{NotReadable};
-ghost use Rattle.coset_labels.specs.Told.{told, SameFault};
+ghost use Rattle.coset_labels.specs.ErrorContent.{content_of, SameFault};
 
 use crate::error::{CoseError, EndOfFile, Fault};
 use crate::order::CborOrdering;
@@ -19,7 +19,7 @@ pub fn ends_compare(a: EndOfFile, b: EndOfFile)
 
 /// Errors are equal if they say the same, texts included.
 pub fn errors_compare(a: CoseError, b: CoseError)
-    ensures { IsTrue (⟦<CoseError as std::cmp::PartialEq>⟧.eq a b) ↔ (told a ≡ told b) }
+    ensures { IsTrue (⟦<CoseError as std::cmp::PartialEq>⟧.eq a b) ↔ (content_of a ≡ content_of b) }
 {}
 
 /// Faults are equal if both are the caller's and its errors are equal, or both are of COSE and

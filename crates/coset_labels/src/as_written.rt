@@ -26,7 +26,7 @@ pub trait AsWritten: AsCborValue {
             → MatchBool result (tree_of x ≡ Some (view value.now))
             (tree_of x ≡ Some (view value.now) → ⊥) };
 
-    /// Fields that a value is read as are a content that it has, and are written as that content.
+    /// If a value is read as some fields, it has a content that is written as these fields are.
     ghost read: { (t : Tree) (x : Self.Fields) → Self.shape t x
         → (n : ℕ) × (k : ℕ) × (c : Content) × has n t c k × (tree_of c ≡ Self.written x) };
 }

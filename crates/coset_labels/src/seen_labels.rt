@@ -56,7 +56,7 @@ pub struct SeenLabels<K: Ord> {
 }
 
 impl<K: EntryKey> SeenLabels<K> {
-    /// No key. It takes no memory.
+    /// No key was seen. It takes no memory.
     pub fn new(alloc: Global) -> SeenLabels<K>
         ensures { Sees K.cmp K.fields result [] }
     {

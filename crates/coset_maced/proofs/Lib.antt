@@ -1,9 +1,9 @@
+pub mod Canonical
+pub mod CanonicalSteps
 pub mod Equal
 pub mod Fit
 pub mod Kept
 pub mod PutWritten
 pub mod Received
-pub mod Standing
-pub mod Stands
 pub mod Unique
 pub mod Writable

@@ -14,7 +14,7 @@ mac0_covered_with m payload aad = mac_structure (mac_text CoseMac0) m.protected 
 abbrev pub mac0_covered : Mac0Fields → List ℕ → Option (List ℕ)
 mac0_covered m aad = mac0_covered_with m (content_bytes m.payload) aad
 
--- of a message with recipients
+-- what the tag of a COSE_Mac covers
 abbrev pub mac_covered_with : MacFields → List ℕ → List ℕ → Option (List ℕ)
 mac_covered_with m payload aad = mac_structure (mac_text CoseMac) m.protected aad payload
 

@@ -56,8 +56,8 @@ pub fn written_has_same()
         → HasMac n u m k }
 {}
 
-/// So are the bytes: the encoding of what is written nests no deeper than what was read, and is
-/// read again with the same fields.
+/// The encoding of what is written nests no deeper than what was read, and is read again with the
+/// same fields.
 pub fn written_reads_same()
     ensures mac0 { (n k limit : ℕ) (b : List ℕ) (t u : Tree) (m : Mac0Fields) → Reads b limit t
         → HasMac0 n t m k → mac0_tree m ≡ Some u → Fits u
@@ -151,7 +151,7 @@ pub fn read_is_received()
     ensures mac { (n k : ℕ) (t : Tree) (m : MacFields) → HasMac n t m k → MacReceived m }
 {}
 
-/// So what was read is written straight from its fields as the one value that is written of it.
+/// What was read is written straight from its fields as the same value as by `to_cbor_value`.
 pub fn read_is_put()
     ensures mac0 { (n k : ℕ) (t : Tree) (m : Mac0Fields) → HasMac0 n t m k
         → mac0_tree m ≡ Some (mac0_put m) }

@@ -16,7 +16,7 @@ use coset_labels::tuples::four;
 use coset_labels::{
     AsCborValue, CborSerializable, CoseError, Limits, TaggedCborSerializable, ValueTryAs,
 };
-use coset_recipients::{Parts, fill_parts, write_parts};
+use coset_recipients::{PartValues, Parts, write_parts};
 use std::alloc::Global;
 
 /// The elements are read from the last to the first.
@@ -87,11 +87,13 @@ impl CoseMac0 {
         match four(items) {
             Some((protected, unprotected, payload, tag)) => {
                 let tag = tag.try_as_bytes()?;
-                fill_parts(
-                    alloc,
+                let values = PartValues {
                     protected,
                     unprotected,
-                    payload,
+                    content: payload,
+                };
+                values.fill(
+                    alloc,
                     limits,
                     "bstr",
                     &mut self.protected,

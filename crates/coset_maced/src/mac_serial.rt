@@ -16,7 +16,7 @@ use coset_labels::tuples::five;
 use coset_labels::{
     AsCborValue, CborSerializable, CoseError, Limits, TaggedCborSerializable, ValueTryAs,
 };
-use coset_recipients::{Parts, fill_parts, read_recipients, write_parts, write_recipients};
+use coset_recipients::{PartValues, Parts, read_recipients, write_parts, write_recipients};
 use std::alloc::Global;
 
 /// The elements are read from the last to the first, and the recipients from the first to the last.
@@ -91,11 +91,13 @@ impl CoseMac {
             Some((protected, unprotected, payload, tag, list)) => {
                 let recipients = read_recipients(alloc, list, limits)?;
                 let tag = tag.try_as_bytes()?;
-                fill_parts(
-                    alloc,
+                let values = PartValues {
                     protected,
                     unprotected,
-                    payload,
+                    content: payload,
+                };
+                values.fill(
+                    alloc,
                     limits,
                     "bstr",
                     &mut self.protected,

@@ -36,7 +36,7 @@ unrolled a b = compared_is block.the_members (carrier.Values block.the_members b
 abbrev Same : CoseRecipient → Type 0
 Same a = (b : CoseRecipient) → IsTrue (derived a b) ↔ (recipient_view a ≡ recipient_view b)
 
--- a recipient, with the fact of it
+-- a recipient of which `Same` is shown
 abbrev Such : Type 0
 Such = (a : CoseRecipient) × Same a
 

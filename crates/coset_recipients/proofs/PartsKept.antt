@@ -20,7 +20,7 @@ use Rattle.coset_recipients.proofs.PartsFit.{whole_fit}
 use Rattle.coset_recipients.proofs.PartsSound.{whole_sound, item_again, tagged_again}
 use Rattle.coset_recipients.proofs.PartsWritable.{parts_some}
 
--- what is written, o, of an item of which P holds
+-- o, which is written for an item of which P holds, is there, and P holds of it
 pub record Kept (P : Tree → Type 0) (o : Option Tree) : Type 0 where
   pub some : (x : Tree) → P x → o ≢ None
   pub again : (x y : Tree) → P x → o ≡ Some y → P y

@@ -11,7 +11,7 @@ use Rattle.coset_recipients.specs.PartsFields.{parts}
 use Rattle.coset_recipients.specs.PartShapes.{HasParts, HoldOf, HasWhole}
 use Rattle.coset_recipients.specs.PartsWritten.{optional_tree}
 use Rattle.coset_recipients.specs.WrongParts.{WrongParts, in_protected, in_unprotected, in_content, IsNoBytes, how_many, AnyWrong, WrongWhole, no_array, not_as_many, in_parts, in_lasts}
-use Rattle.coset_recipients.proofs.PartsStands.{array_same}
+use Rattle.coset_recipients.proofs.PartsCanonical.{array_same}
 
 -- ---- the parts
 optional_once : (c d : Option (List ℕ)) → optional_tree c ≡ optional_tree d → c ≡ d

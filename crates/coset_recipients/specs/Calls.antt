@@ -38,7 +38,7 @@ abbrev pub BuiltWhere : {F T A B : Type 0} → Once F (Bor T × Unit {0}) A → 
 BuiltWhere g f o given P (Ok b) = IsSomeAnd o (λ y. FnOnceReturnsAt g f y (given b)) × P b
 BuiltWhere g f o given P (Err c) = CantWrite o c
 
--- alike, if f may give an error of its own
+-- as `BuiltWhere`, if f may give an error of its own
 abbrev pub MadeWhere : {F T A B E : Type 0} → Once F (Bor T × Unit {0}) (Result A E) → F → Option T → (B → A) → (B → Type 0) → Result B (Fault E) → Type 0
 MadeWhere g f o given P (Ok b) = IsSomeAnd o (λ y. FnOnceReturnsAt g f y (Ok (given b))) × P b
 MadeWhere g f o given P (Err (fault.Caller e)) = IsSomeAnd o (λ y. FnOnceReturnsAt g f y (Err e))

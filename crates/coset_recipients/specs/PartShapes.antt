@@ -14,14 +14,14 @@ pub record HasParts (n : ℕ) (first second third : Tree) (f : PartsFields) (k :
   pub unprotected : HasHeader n second f.unprotected k
   pub content : third ≡ optional_tree f.content
 
--- these hold of the items, one of each
+-- each property holds of the item in its place, and there are as many items
 abbrev pub HoldOf : List (Tree → Type 0) → List Tree → Type 0
 HoldOf [] [] = Unit {0}
 HoldOf [] (t ∷ ts) = ⊥
 HoldOf (P ∷ Ps) [] = ⊥
 HoldOf (P ∷ Ps) (t ∷ ts) = P t × HoldOf Ps ts
 
--- of one item, and of two
+-- the same for one item, and for two
 pub one_held : (P : Tree → Type 0) (ts : List Tree) → HoldOf (P ∷ []) ts → (x : Tree) × (ts ≡ x ∷ []) × P x
 one_held P [] h = absurd h
 one_held P (x ∷ []) h = (x, refl, h.0)

@@ -7,7 +7,7 @@ use Rattle.coset_headers.specs.declared.header.ProtectedHeader.{ProtectedHeader}
 use Rattle.coset_recipients.specs.PartsFields.{PartsFields, parts}
 use Rattle.coset_recipients.specs.declared.parts.Parts.{Parts}
 
--- of three places
+-- the parts from a protected header, an unprotected one, and bytes or none
 abbrev pub parts_in : ProtectedHeader → Header → Option (Vec ℕ) → PartsFields
 parts_in p u c = parts (protected_view p) (header_view u) (option_map (λ v. v.items) c)
 

@@ -8,7 +8,7 @@ use Rattle.coset_recipients.specs.PartsFields.{parts}
 use Rattle.coset_recipients.specs.PartShapes.{HasParts}
 use Rattle.coset_recipients.specs.Fields.{RecipientFields, recipient, RecipientsFields, no_recipients, recipient_more}
 
--- what is there, as a list
+-- the item as a list of one; an empty list if there is none
 abbrev pub optional_list : Option Tree → List Tree
 optional_list None = []
 optional_list (Some t) = t ∷ []

@@ -11,16 +11,16 @@ use Rattle.coset_recipients.specs.Fields.{RecipientFields, recipient, Recipients
 use Rattle.coset_recipients.specs.View.{recipient_view}
 use Rattle.coset_recipients.specs.declared.recipient.CoseRecipient.{CoseRecipient, out-CoseRecipient}
 
--- one recipient more, at the end, of which P holds
+-- a recipient of which P holds was appended
 abbrev pub Pushes : (RecipientFields → Type 0) → List CoseRecipient → List CoseRecipient → Type 0
 Pushes P old new = (r : CoseRecipient) × (new ≡ old ++ r ∷ []) × P (recipient_view r)
 
--- the recipient of three elements and of the recipients in it
+-- three elements and the recipients in it have the fields of this recipient
 abbrev pub HasThree : ℕ → List Tree → RecipientsFields → RecipientFields → ℕ → Type 0
 HasThree n (x ∷ y ∷ z ∷ []) inner (recipient p u c rs) k = HasParts n x y z (parts p u c) k × (rs ≡ inner)
 HasThree n _ inner r k = ⊥
 
--- the fault of three elements, and of a list of another length
+-- which fault three elements have; a list of another length is an unexpected item
 abbrev pub WrongThree : ℕ → List Tree → ℕ → CoseFault → Type 0
 WrongThree n (x ∷ y ∷ z ∷ []) k e = WrongParts n x y z k e
 WrongThree n _ k e = e ≡ unexpected

@@ -63,8 +63,8 @@ pub fn written_has_same()
         → list_tree rs ≡ Some u → HasList n u rs k }
 {}
 
-/// So are the bytes: the encoding of what is written nests no deeper than what was read, and is
-/// read again with the same fields.
+/// The encoding of what is written nests no deeper than what was read, and is read again with the
+/// same fields.
 pub fn written_reads_same()
     ensures { (n k limit : ℕ) (b : List ℕ) (t u : Tree) (r : RecipientFields) → Reads b limit t
         → HasRecipient n t r k → recipient_tree r ≡ Some u → Fits u
@@ -152,7 +152,7 @@ pub fn read_is_received()
         → RecipientsReceived rs }
 {}
 
-/// So what was read is written straight from its fields as the one value that is written of it.
+/// What was read is written straight from its fields as the same value as by `to_cbor_value`.
 pub fn read_is_put()
     ensures recipient { (n k : ℕ) (t : Tree) (r : RecipientFields) → HasRecipient n t r k
         → recipient_tree r ≡ Some (recipient_put r) }

@@ -15,10 +15,10 @@ mod serial;
 mod sink;
 mod writer;
 
-pub use crate::as_written::recipients_stand;
+pub use crate::as_written::are_canonical_recipients;
 pub use crate::builder::CoseRecipientBuilder;
 pub use crate::copies::clone_recipients;
-pub use crate::parts::{Parts, content_bytes, fill_parts, optional_value, read_parts, write_parts};
+pub use crate::parts::{PartValues, Parts, content_bytes, optional_value, write_parts};
 pub use crate::parts_sink::begin_parts;
 pub use crate::reader::read_recipients;
 pub use crate::recipient::CoseRecipient;

@@ -27,79 +27,81 @@ pub struct Parts {
     pub content: Option<Vec<u8>>,
 }
 
-/// Reads the three parts from the last to the first, within these limits. `want` names what the
-/// content should have been, for the text of its error. No byte string is copied.
-///
-/// # Errors
-/// A fault that one of the parts has, or `Memory`.
-pub fn read_parts(
-    alloc: Global,
-    protected: Value,
-    unprotected: Value,
-    content: Value,
-    limits: Limits,
-    want: &'static str,
-) -> Result<Parts, CoseError>
-    ensures { MatchResult result
-        (λ p. HasParts (nesting_of limits) (view protected) (view unprotected) (view content)
-        (parts_view p) (layers_of limits))
-        (λ e. OrMemory
-        (WrongParts (nesting_of limits) (view protected) (view unprotected) (view content)
-        (layers_of limits)) e) }
-{
-    let mut parts = Parts {
-        protected: ProtectedHeader::new(alloc),
-        unprotected: Header::new(alloc),
-        content: None,
-    };
-    fill_parts(
-        alloc,
-        protected,
-        unprotected,
-        content,
-        limits,
-        want,
-        &mut parts.protected,
-        &mut parts.unprotected,
-        &mut parts.content,
-    )?;
-    Ok(parts)
+/// The values of the parts, as they stand in a message or a recipient.
+#[derive(Drop)]
+pub struct PartValues {
+    /// That of the protected header.
+    pub protected: Value,
+    /// That of the unprotected header.
+    pub unprotected: Value,
+    /// That of what is carried.
+    pub content: Value,
 }
 
-/// Reads the three parts into their places, which are empty, as `read_parts` does. After an error
-/// they are empty again.
-///
-/// # Errors
-/// Those of `read_parts`.
-pub fn fill_parts(
-    alloc: Global,
-    protected: Value,
-    unprotected: Value,
-    content: Value,
-    limits: Limits,
-    want: &'static str,
-    into_protected: &mut ProtectedHeader,
-    into_unprotected: &mut Header,
-    into_content: &mut Option<Vec<u8>>,
-) -> Result<(), CoseError>
-    requires empty { parts_in into_protected.old into_unprotected.old into_content.old ≡ no_parts }
-    ensures read { MatchResult result
-        (λ _. HasParts (nesting_of limits) (view protected) (view unprotected) (view content)
-        (parts_in into_protected.new into_unprotected.new into_content.new) (layers_of limits))
-        (λ e. OrMemory
-        (WrongParts (nesting_of limits) (view protected) (view unprotected) (view content)
-        (layers_of limits)) e) }
-    ensures err { OnErr result
-        (parts_in into_protected.new into_unprotected.new into_content.new ≡ no_parts) }
-{
-    let content = content.try_as_bytes_or_nil(want)?;
-    into_unprotected.fill(alloc, unprotected, limits)?;
-    if let Err(error) = into_protected.fill_bstr(alloc, protected, limits) {
-        *into_unprotected = Header::new(alloc);
-        return Err(error);
+impl PartValues {
+    /// Reads the three parts from the last to the first, within these limits. `want` names what the
+    /// content should have been, for the text of its error. No byte string is copied.
+    ///
+    /// # Errors
+    /// A fault that one of the parts has, or `Memory`.
+    pub fn read(self, alloc: Global, limits: Limits, want: &'static str) -> Result<Parts, CoseError>
+        ensures { MatchResult result
+            (λ p. HasParts (nesting_of limits) (view self.protected) (view self.unprotected)
+            (view self.content) (parts_view p) (layers_of limits))
+            (λ e. OrMemory
+            (WrongParts (nesting_of limits) (view self.protected) (view self.unprotected)
+            (view self.content) (layers_of limits)) e) }
+    {
+        let mut parts = Parts {
+            protected: ProtectedHeader::new(alloc),
+            unprotected: Header::new(alloc),
+            content: None,
+        };
+        self.fill(
+            alloc,
+            limits,
+            want,
+            &mut parts.protected,
+            &mut parts.unprotected,
+            &mut parts.content,
+        )?;
+        Ok(parts)
     }
-    *into_content = content;
-    Ok(())
+
+    /// Reads the three parts into their places, which are empty, as `read` does. After an error
+    /// they are empty again.
+    ///
+    /// # Errors
+    /// Those of `read`.
+    pub fn fill(
+        self,
+        alloc: Global,
+        limits: Limits,
+        want: &'static str,
+        protected: &mut ProtectedHeader,
+        unprotected: &mut Header,
+        content: &mut Option<Vec<u8>>,
+    ) -> Result<(), CoseError>
+        requires empty { parts_in protected.old unprotected.old content.old ≡ no_parts }
+        ensures read { MatchResult result
+            (λ _. HasParts (nesting_of limits) (view self.protected) (view self.unprotected)
+            (view self.content) (parts_in protected.new unprotected.new content.new)
+            (layers_of limits))
+            (λ e. OrMemory
+            (WrongParts (nesting_of limits) (view self.protected) (view self.unprotected)
+            (view self.content) (layers_of limits)) e) }
+        ensures err { OnErr result
+            (parts_in protected.new unprotected.new content.new ≡ no_parts) }
+    {
+        let carried = self.content.try_as_bytes_or_nil(want)?;
+        unprotected.fill(alloc, self.unprotected, limits)?;
+        if let Err(error) = protected.fill_bstr(alloc, self.protected, limits) {
+            *unprotected = Header::new(alloc);
+            return Err(error);
+        }
+        *content = carried;
+        Ok(())
+    }
 }
 
 /// The values of the three parts, in their order.

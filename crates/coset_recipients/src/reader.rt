@@ -10,7 +10,7 @@ ghost use Rattle.coset_recipients.specs.View.{recipient_view, recipients_view};
 ghost use Rattle.coset_recipients.specs.Walks.{Pushes, HasThree, WrongThree};
 ghost use Rattle.coset_recipients.specs.Wrong.{WrongRecipient, WrongList};
 
-use crate::parts::read_parts;
+use crate::parts::PartValues;
 use crate::recipient::CoseRecipient;
 use ciborium_value::Value;
 use coset_labels::tuples::three;
@@ -91,14 +91,12 @@ fn push_read(
     let Some((protected, unprotected, ciphertext)) = three(items) else {
         return Err(CoseError::UnexpectedItem("array", "array with 3 or 4 items"));
     };
-    let parts = read_parts(
-        alloc,
+    let values = PartValues {
         protected,
         unprotected,
-        ciphertext,
-        limits,
-        "bstr / null",
-    )?;
+        content: ciphertext,
+    };
+    let parts = values.read(alloc, limits, "bstr / null")?;
     recipients.push(CoseRecipient {
         protected: parts.protected,
         unprotected: parts.unprotected,

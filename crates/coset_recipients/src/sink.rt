@@ -18,7 +18,7 @@ fn count_items(recipients: &[CoseRecipient]) -> usize
     if recipients.is_empty() { 3 } else { 4 }
 }
 
-/// The beginning of the list of the recipients inside one, if there are any.
+/// Writes the beginning of the list of the recipients inside one, if there are any.
 #[tactic(auto, using(crate::proofs::Events::inner_opened, coset_headers::proofs::Empty::full_by))]
 fn begin_inner<S: Sink>(recipients: &[CoseRecipient], to: &mut S) -> Result<(), S::Error>
     ensures ok { OnOk result (Puts S.due to.old
@@ -32,7 +32,7 @@ fn begin_inner<S: Sink>(recipients: &[CoseRecipient], to: &mut S) -> Result<(), 
     to.array(recipients.len())
 }
 
-/// A recipient up to the recipients inside it.
+/// Writes a recipient up to the recipients inside it.
 #[tactic(auto, using(crate::proofs::Events::begun_opened))]
 #[inline(never)]
 fn begin_recipient<S: Sink>(recipient: &CoseRecipient, to: &mut S) -> Result<(), S::Error>
@@ -71,7 +71,7 @@ pub fn put_recipient<S: Sink>(recipient: &CoseRecipient, to: &mut S) -> Result<(
     put_each(&recipient.recipients, to)
 }
 
-/// Recipients one after another.
+/// Writes recipients one after another.
 #[cycle(put)]
 fn put_each<S: Sink>(recipients: &[CoseRecipient], to: &mut S) -> Result<(), S::Error>
     requires { RecipientsReceived (recipients_view recipients.now) }

@@ -1,11 +1,11 @@
+pub mod Canonical
+pub mod CanonicalSteps
 pub mod Equal
 pub mod Excludes
 pub mod Fit
 pub mod Kept
 pub mod PutWritten
 pub mod Received
-pub mod Standing
-pub mod Stands
 pub mod Steps
 pub mod Unique
 pub mod Writable

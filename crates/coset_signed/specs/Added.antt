@@ -19,7 +19,7 @@ abbrev pub AddsWhere : {F T A B : Type 0} → Once F (Bor T × Unit {0}) A → F
 AddsWhere {A = A} g f o P (Ok b) = (a : A) × IsSomeAnd o (λ y. FnOnceReturnsAt g f y a) × P a b
 AddsWhere g f o P (Err c) = CantWrite o c
 
--- alike, if the closure may give an error of its own
+-- as `AddsWhere`, if the closure may give an error of its own
 abbrev pub TriesToAddWhere : {F T A B E : Type 0} → Once F (Bor T × Unit {0}) (Result A E) → F → Option T → (A → B → Type 0) → Result B (Fault E) → Type 0
 TriesToAddWhere {A = A} g f o P (Ok b) = (a : A) × IsSomeAnd o (λ y. FnOnceReturnsAt g f y (Ok a)) × P a b
 TriesToAddWhere g f o P (Err (fault.Caller e)) = IsSomeAnd o (λ y. FnOnceReturnsAt g f y (Err e))

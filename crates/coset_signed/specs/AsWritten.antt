@@ -3,17 +3,17 @@
 -- tests say nothing.
 use Rattle.std.specs.Prelude.{Bool, false, ◌&&◌}
 use Rattle.ciborium_value.specs.Tree.{Tree, array, Trees, one_more}
-use Rattle.coset_headers.specs.AsWritten.{elements_stand, signatures_stand}
+use Rattle.coset_headers.specs.AsWritten.{are_canonical_elements, are_canonical_signatures}
 
-abbrev pub list_stands : Tree → Bool
-list_stands (array ts) = signatures_stand ts
-list_stands _ = false
+abbrev pub is_canonical_list : Tree → Bool
+is_canonical_list (array ts) = are_canonical_signatures ts
+is_canonical_list _ = false
 
 -- the fourth element
-abbrev pub last_stands : Trees → Bool
-last_stands (one_more x (one_more y (one_more z (one_more t ts)))) = list_stands t
-last_stands _ = false
+abbrev pub is_canonical_last : Trees → Bool
+is_canonical_last (one_more x (one_more y (one_more z (one_more t ts)))) = is_canonical_list t
+is_canonical_last _ = false
 
-abbrev pub sign_stands : Tree → Bool
-sign_stands (array ts) = elements_stand ts && last_stands ts
-sign_stands _ = false
+abbrev pub is_canonical_sign : Tree → Bool
+is_canonical_sign (array ts) = are_canonical_elements ts && is_canonical_last ts
+is_canonical_sign _ = false

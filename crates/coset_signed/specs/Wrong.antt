@@ -30,6 +30,6 @@ pub data WrongSignatureList (n : ℕ) (t : Tree) (k : ℕ) : CoseFault → Type 
 abbrev pub WrongSign1 : ℕ → Tree → ℕ → CoseFault → Type 0
 WrongSign1 n t k e = WrongWhole n t (IsNoBytes ∷ []) k e
 
--- the same, with its list of signatures
+-- the same, or a fault of its list of signatures
 abbrev pub WrongSign : ℕ → Tree → ℕ → CoseFault → Type 0
 WrongSign n t k e = WrongWhole n t ((λ d f. WrongSignatureList n d k f) ∷ []) k e

@@ -65,8 +65,8 @@ pub fn written_has_same()
         → HasSign n u m k }
 {}
 
-/// So are the bytes: the encoding of what is written nests no deeper than what was read, and is
-/// read again with the same fields.
+/// The encoding of what is written nests no deeper than what was read, and is read again with the
+/// same fields.
 pub fn written_reads_same()
     ensures sign1 { (n k limit : ℕ) (b : List ℕ) (t u : Tree) (m : Sign1Fields) → Reads b limit t
         → HasSign1 n t m k → sign1_tree m ≡ Some u → Fits u
@@ -172,7 +172,7 @@ pub fn read_is_received()
     ensures sign { (n k : ℕ) (t : Tree) (m : SignFields) → HasSign n t m k → SignReceived m }
 {}
 
-/// So what was read is written straight from its fields as the one value that is written of it.
+/// What was read is written straight from its fields as the same value as by `to_cbor_value`.
 pub fn read_is_put()
     ensures sign1 { (n k : ℕ) (t : Tree) (m : Sign1Fields) → HasSign1 n t m k
         → sign1_tree m ≡ Some (sign1_put m) }

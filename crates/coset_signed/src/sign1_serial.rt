@@ -16,7 +16,7 @@ use coset_labels::tuples::four;
 use coset_labels::{
     AsCborValue, CborSerializable, CoseError, Limits, TaggedCborSerializable, ValueTryAs,
 };
-use coset_recipients::{Parts, fill_parts, write_parts};
+use coset_recipients::{PartValues, Parts, write_parts};
 use std::alloc::Global;
 
 /// The elements are read from the last to the first.
@@ -85,11 +85,13 @@ impl CoseSign1 {
         match four(items) {
             Some((protected, unprotected, payload, signature)) => {
                 let signature = signature.try_as_bytes()?;
-                fill_parts(
-                    alloc,
+                let values = PartValues {
                     protected,
                     unprotected,
-                    payload,
+                    content: payload,
+                };
+                values.fill(
+                    alloc,
                     limits,
                     "bstr or nil",
                     &mut self.protected,

@@ -22,7 +22,7 @@ use coset_labels::{
     AsCborValue, CborSerializable, CoseError, Limits, TaggedCborSerializable, ValueTryAs,
     to_cbor_array,
 };
-use coset_recipients::{Parts, fill_parts, write_parts};
+use coset_recipients::{PartValues, Parts, write_parts};
 use std::alloc::Global;
 
 /// The elements are read from the last to the first, and the signatures from the first to the last.
@@ -92,11 +92,13 @@ impl CoseSign {
         match four(items) {
             Some((protected, unprotected, payload, list)) => {
                 let signatures = read_signatures(alloc, list, limits)?;
-                fill_parts(
-                    alloc,
+                let values = PartValues {
                     protected,
                     unprotected,
-                    payload,
+                    content: payload,
+                };
+                values.fill(
+                    alloc,
                     limits,
                     "bstr or nil",
                     &mut self.protected,
@@ -162,7 +164,7 @@ fn read_signature(alloc: Global, value: Value, limits: Limits) -> Result<CoseSig
     }
 }
 
-/// What is wrong in a signature is not told, but for being out of memory.
+/// Each error inside a signature becomes one and the same, as in coset; being out of memory stays.
 fn hide(error: CoseError) -> CoseError
     ensures { Hides error result }
 {

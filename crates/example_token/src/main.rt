@@ -33,7 +33,7 @@ enum Refused {
     Tag,
     /// It carries no claims.
     NoClaims,
-    /// Its time is over, or it doesn't say when that is.
+    /// It has expired, or doesn't say when it expires.
     Expired,
 }
 
@@ -90,7 +90,7 @@ fn verified(tag: &[u8], covered: &[u8]) -> Result<(), Refused> {
     }
 }
 
-/// Whether the claims don't hold any more, or don't say until when they do.
+/// Whether the claims have expired, or don't say when they do.
 fn is_over(claims: &ClaimsSet, now: i64) -> bool {
     !matches!(claims.expiration_time, Some(Timestamp::WholeSeconds(end)) if now < end)
 }

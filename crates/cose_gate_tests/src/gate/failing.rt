@@ -123,9 +123,9 @@ fn torn(alloc: Global, way: Way, calls: usize) -> Observed<End> {
 /// The result of a run that wrote so many bytes, and how far it came.
 fn want_of(written: usize) -> (Answer<End>, (usize, usize, usize)) {
     match written {
-        // the writer can't be flushed, and wasn't
+        // all was written; a flush would fail, but the gate doesn't flush
         28 => (whole(2, 1), (2, 28, 3)),
-        // the first message was noted, and the value after it, once it was there
+        // the first message was written whole: it was noted, and so was the value after it
         14.. => (Err(GateFault::Write), (2, written, 2)),
         _ => (Err(GateFault::Write), (1, written, 0)),
     }

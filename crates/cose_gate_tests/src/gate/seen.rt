@@ -13,7 +13,7 @@ pub fn whole<E>(passed: usize, refused: usize) -> Answer<E> {
     Ok(Counts { passed, refused })
 }
 
-/// By which call a run goes.
+/// Which of the four calls of the gate makes a run.
 #[derive(Debug, Clone, Copy, PartialEq, Eq)]
 pub enum Way {
     Plain,
@@ -33,8 +33,8 @@ pub fn ways() -> [Way; 4] {
     ]
 }
 
-/// What a run by this call over this reader returns. It has no clause, so that a test that calls it
-/// carries none of the gate's.
+/// What a run by this call over this reader returns. It has no contract: so the gate's clauses are
+/// not proved over again in each test.
 pub fn answered_by<R: Read + Drop, W: Write, P: Report, J: Judge>(
     alloc: Global,
     way: Way,

@@ -28,7 +28,7 @@ fn refused(alloc: Global, way: Way, calls: (usize, usize)) -> Observed<End> {
     }
 }
 
-/// The run ends for being out of memory, so far.
+/// If memory runs out after so many calls, the run says so, and has come this far.
 fn ends_at(
     rt: &impl Abort,
     alloc: Global,

@@ -5,8 +5,8 @@ use std::alloc::Global;
 use std::process::Abort;
 use test_tools::{Counting, FailAfter, Held, Nth, Sink, Source};
 
-/// The status of a run with the key and the external data 01. It has no clause, so that a test that
-/// calls it carries none of the program's.
+/// The status of a run with the key and the external data 01. It has no contract: so the program's
+/// clauses are not proved over again in each test.
 pub fn status<R: Read, W: Write, E: Write>(
     alloc: Global,
     input: &mut R,
@@ -37,8 +37,9 @@ fn is_flushed(
 fn the_output_is_flushed(rt: HostRuntime) {
     let alloc = rt.alloc();
     let passed = "item 1 at 0: passed\npassed 1, refused 0\n";
-    is_flushed(&rt, alloc, TAGGED, 1, (0, passed, 44));
+    is_flushed(&rt, alloc, TAGGED, 2, (0, passed, 44));
     let failed = "item 1 at 0: passed\nstopped: write\n";
+    is_flushed(&rt, alloc, TAGGED, 1, (4, failed, 44));
     is_flushed(&rt, alloc, TAGGED, 0, (4, failed, 0));
     is_flushed(&rt, alloc, &[0x1f], 0, (4, "stopped: write\n", 0));
 }
@@ -57,7 +58,7 @@ fn lines_are_flushed(rt: HostRuntime) {
 /// A run over this input ends with this status, and so many bytes of its lines are shown.
 fn all_shown(rt: &impl Abort, alloc: Global, input: &[u8], want: (u8, usize)) {
     let mut out = Mem::new(Vec::new(alloc));
-    let mut err = Held::new(alloc, 1);
+    let mut err = Held::new(alloc, 2);
     let mut reader = input;
     let status = status(alloc, &mut reader, &mut out, &mut err);
     assert_eq!(rt; (status, err.shown), want);
@@ -68,6 +69,72 @@ fn last_lines_are_flushed(rt: HostRuntime) {
     let alloc = rt.alloc();
     all_shown(&rt, alloc, TAGGED, (0, 40));
     all_shown(&rt, alloc, &[0x1f], (4, 27));
+}
+
+/// Whether a message that passes is handed on before what follows it is read: the output can't be
+/// flushed, so the reader is left there then.
+fn is_handed_on(rt: &impl Abort, alloc: Global, next: &[u8]) -> bool {
+    let mut input = Vec::new(alloc);
+    input.extend_from_slice(TAGGED).expect(rt, "memory");
+    input.extend_from_slice(next).expect(rt, "memory");
+    let mut out = Held::new(alloc, 0);
+    let mut err = Mem::new(Vec::new(alloc));
+    let mut reader = input.as_slice();
+    assert_eq!(rt; status(alloc, &mut reader, &mut out, &mut err), 4);
+    reader.len() == next.len()
+}
+
+#[test]
+fn what_passed_is_handed_on_unless_the_next_item_is_at_hand(rt: HostRuntime) {
+    let alloc = rt.alloc();
+    for whole in [
+        [0x17].as_slice(),
+        &[0x18, 0x20],
+        &[0x39, 1, 0],
+        &[0x1a, 0, 0, 0, 1],
+        &[0x3b, 0, 0, 0, 0, 0, 0, 0, 1],
+        &[0x42, 0xff, 0xff],
+        &[0x58, 1, 0xff],
+        &[0x61, 0x61],
+        &[0x80],
+        &[0x82, 0x81, 0, 0xa0],
+        &[0xa1, 0, 1],
+        &[0xd8, 0x64, 0x81, 0],
+        &[0xf5],
+        &[0xf9, 0, 0],
+        &[0, 0x42],
+    ] {
+        assert!(rt; !is_handed_on(&rt, alloc, whole));
+    }
+    for part in [
+        [0x18].as_slice(),
+        &[0x39, 1],
+        &[0x1a, 0, 0, 0],
+        &[0x3b, 0, 0, 0, 0, 0, 0, 0],
+        &[0x42, 0xff],
+        &[0x58],
+        &[0x58, 1],
+        &[0x5b, 0xff, 0xff, 0xff, 0xff, 0xff, 0xff, 0xff, 0xff],
+        &[0x82, 0x81, 0],
+        &[0x9b, 0xff, 0xff, 0xff, 0xff, 0xff, 0xff, 0xff, 0xff, 0],
+        &[0xa1, 0],
+        &[0xbb, 0xff, 0xff, 0xff, 0xff, 0xff, 0xff, 0xff, 0xff, 0],
+        &[0xd8, 0x64],
+        &[0x1c],
+        &[0x9f, 0xff],
+    ] {
+        assert!(rt; is_handed_on(&rt, alloc, part));
+    }
+}
+
+#[test]
+fn what_passed_waits_while_4096_bytes_are_at_hand(rt: HostRuntime) {
+    let alloc = rt.alloc();
+    let mut many = Vec::from_elem(alloc, 0, 4096).expect(&rt, "memory");
+    many[0] = 0x59;
+    many[1] = 0xff;
+    assert!(rt; !is_handed_on(&rt, alloc, &many));
+    assert!(rt; is_handed_on(&rt, alloc, &many[..4095]));
 }
 
 /// A run over a reader that fails stops there, with these lines and this output.

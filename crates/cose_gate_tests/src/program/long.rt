@@ -22,7 +22,8 @@ fn many(rt: &impl Abort, alloc: Global, message: &[u8]) -> Vec<u8> {
     all
 }
 
-/// The status and the length of the output. It has no clause, so that its caller carries none.
+/// The status and the length of the output. It has no contract: so those of the call are not proved
+/// over again in its caller.
 fn checked(alloc: Global, input: &[u8], out: &mut [u8]) -> (u32, usize) {
     let answer = check(alloc, CHOICE, KEYS, &[1], input, out, &mut []);
     (answer.status, answer.length)

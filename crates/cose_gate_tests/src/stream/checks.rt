@@ -7,8 +7,8 @@ use std::alloc::Global;
 use std::process::Abort;
 
 /// The result of a check of what this reader gives, within limits if there are some, and how many
-/// bytes were taken. It has no clause but the space, so that a test that calls it carries none of
-/// `stream_check`'s.
+/// bytes were taken. Its contract is only that the buffer isn't empty: so the clauses of
+/// `stream_check` are not proved over again in each test.
 pub fn checked<R: Read + Drop, J: Judge>(
     alloc: Global,
     limits: Option<Limits>,

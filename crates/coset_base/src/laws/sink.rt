@@ -32,8 +32,8 @@ pub fn read_is_received()
         → SignatureReceived s }
 {}
 
-/// So what was read is written straight from its fields as the one value that is written of it, and
-/// a protected header as it was read.
+/// What was read is written straight from its fields as the same value as by `to_cbor_value`, and a
+/// protected header as it was read.
 pub fn read_is_put()
     ensures header { (n k : ℕ) (t : Tree) (h : HeaderFields) → HasHeader n t h k
         → header_tree h ≡ Some (header_put h) }

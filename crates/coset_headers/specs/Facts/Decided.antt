@@ -1,4 +1,4 @@
--- What says the same is equal.
+-- The code's equality of headers is that of their fields.
 use Rattle.std.proofs.Common.{◌≡◌, true, false, refl, ap, ◌∙◌}
 use Rattle.std.proofs.lemmas.Cmp.{tied_itself}
 use Rattle.std.specs.Prelude.{IsTrue, ◌↔◌, ◌&&◌, nat_eq}

@@ -75,7 +75,7 @@ fn a_signature_covers_no_unprotected_header(rt: HostRuntime) {
     // other external data is another question
     is_signed(&rt, alloc, &message, b"other data", false);
 
-    // what was received decides, until it is forgotten
+    // the received bytes are covered, and not the field, until they are taken out
     message.protected.header.content_type = content_type(&rt, alloc);
     is_signed(&rt, alloc, &message, AAD, true);
     message.protected.original_data = None;

@@ -12,7 +12,7 @@ use std::process::Abort;
 enum Refused {
     /// Its issuer is another.
     Issuer,
-    /// Its time is over, or says nothing.
+    /// It has expired, or has no time of expiration.
     Expired,
     /// Its signature is not the one of these external data.
     Signature,

@@ -8,9 +8,9 @@ pub returns-clause-ran : goal.returns-clause-ran
 returns-clause-ran g c =
     gated _ _ _ _ _ _ _ _ _ _ _ _ c.from-decoder.ensures.1
     (same_devices _ _ _ _ _ _ _ _ (sym (no_title _ _ _ refl c.from-decoder.ensures.2)) refl refl refl)
-    (same_devices _ _ _ _ _ _ _ _ (search rules ∙ sym (no_title _ _ _ refl c.gate_by.ensures.fresh)) (search rules) (search rules) (search rules))
-    (rw c.from-decoder.ensures.0 at c.gate_by.ensures.ran) (rw c.from-decoder.ensures.0 at c.gate_by.ensures.reader)
-    c.gate_by.ensures.writer
-    (λ empty steady. (rw c.from-decoder.ensures.0 at c.gate_by.ensures.nothing) empty steady (omega (arith, c.from-decoder.ensures.1)))
+    (same_devices _ _ _ _ _ _ _ _ (search rules ∙ sym (no_title _ _ _ refl c.gate_live.ensures.fresh)) (search rules) (search rules) (search rules))
+    (rw c.from-decoder.ensures.0 at c.gate_live.ensures.ran) (rw c.from-decoder.ensures.0 at c.gate_live.ensures.reader)
+    c.gate_live.ensures.writer
+    (λ empty steady. (rw c.from-decoder.ensures.0 at c.gate_live.ensures.nothing) empty steady (omega (arith, c.from-decoder.ensures.1)))
     (λ qs e. e)
     (λ ss e. search (rules, heard_by g.T.Teller.folded _ _ (entries_of ss) e, heard_state g.T.Teller.folded _ _ (entries_of ss) e))

@@ -1,7 +1,7 @@
 use Rattle.std.proofs.Common.{rules, ◌≡◌, ◌∷◌, ◌++◌, [], ◌∙◌}
 use Rattle.cose_gate_program.specs.Lines.{lines_of}
 use Rattle.cose_gate_program.specs.Writing.{Wrote}
-use Rattle.cose_gate_program.proofs.Spoken.{spoke, same_writer}
+use Rattle.cose_gate_program.proofs.LentLines.{spoke, same_writer}
 use Rattle.cose_gate_program.proofs.Tellings.{ends_as}
 use Rattle.cose_gate_program.proofs.program.run_over.Goals as goal
 

@@ -1,7 +1,7 @@
 use Rattle.std.proofs.Common.{refl}
 use Rattle.cose_gate_program.specs.Telling.{not_begun}
 use Rattle.cose_gate_program.specs.declared.telling.Notice.TheVariants.{NotBegun}
-use Rattle.cose_gate_program.proofs.Spoken.{wrote_one}
+use Rattle.cose_gate_program.proofs.LentLines.{wrote_one}
 use Rattle.cose_gate_program.proofs.Tellings.{began}
 use Rattle.cose_gate_program.proofs.program.run_with.Goals as goal
 

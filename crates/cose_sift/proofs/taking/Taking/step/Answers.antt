@@ -33,3 +33,6 @@ returns-clause-ok g c =
       taken = t.taken;
       grown = t.grown;
     }) c.keep.ensures.ok
+
+pub returns-clause-sound : goal.returns-clause-sound
+returns-clause-sound g c = on_ok_weaker c.keep.result (λ held s. rw c.keep.ensures.walk (c.in-Ok-take.ensures.sound s)) c.keep.ensures.ok

@@ -7,3 +7,6 @@ returns-clause-ok c = on_ok_weaker c.take_item-2.result (λ f title t. agrees_go
 
 pub returns-clause-syntax : goal.returns-clause-syntax
 returns-clause-syntax c = syntax_weaker c.take_item-2.result (λ f title t. agrees_refuses _ _ title (c.in_ok-begin.ensures.ok title t) (f title t)) c.take_item-2.ensures.syntax
+
+pub returns-clause-sound : goal.returns-clause-sound
+returns-clause-sound c = on_ok_weaker c.take_item-2.result (λ f s. f (c.in_ok-begin.ensures.sound s)) c.take_item-2.ensures.sound

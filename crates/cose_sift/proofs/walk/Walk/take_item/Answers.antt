@@ -19,3 +19,9 @@ pub returns-in-Some-Nothing-clause-syntax : goal.returns-in-Some-Nothing-clause-
 returns-in-Some-Nothing-clause-syntax c =
     let is : IsNext c.args.header next.Nothing = rw c.in-Some-Nothing.field-0-is at c.in-Some-Nothing.ensures in
     λ title t. break_untaken c.args.self.now.holds c.args.self.now.due (reverse c.args.self.now.levels.items) c.args.header title c.requires is t
+
+pub returns-in-Some-Items-clause-sound : goal.returns-in-Some-Items-clause-sound
+returns-in-Some-Items-clause-sound c = on_ok_weaker c.add.result (λ due s. rw (c.add.ensures.holds, c.add.ensures.levels) s) c.add.ensures.due
+
+pub returns-in-Some-Open-clause-sound : goal.returns-in-Some-Open-clause-sound
+returns-in-Some-Open-clause-sound c = on_ok_weaker c.open.result (λ o s. rw (o.0, o.2) s) c.open.ensures.ok

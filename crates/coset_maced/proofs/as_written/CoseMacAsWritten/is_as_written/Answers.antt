@@ -1,12 +1,12 @@
 use Rattle.std.proofs.Common.{◌≡◌, Some, sym, subst}
 use Rattle.std.specs.Prelude.{MatchBool}
 use Rattle.ciborium_value.specs.View.{view}
-use Rattle.coset_headers.proofs.Stands.{match_by}
+use Rattle.coset_headers.proofs.Canonical.{match_by}
 use Rattle.coset_maced.specs.Written.{mac_tree}
-use Rattle.coset_maced.proofs.Stands.{mac_by}
+use Rattle.coset_maced.proofs.Canonical.{mac_by}
 use Rattle.coset_maced.proofs.as_written.CoseMacAsWritten.is_as_written.Goals as goal
 
 pub returns : goal.returns
 returns c = λ n k x a.
     let t = view c.args.value.now in
-    subst (λ b. MatchBool b (mac_tree x ≡ Some t) (mac_tree x ≡ Some t → ⊥)) (sym c.mac_stands.ensures) (match_by _ (mac_by n x t k a))
+    subst (λ b. MatchBool b (mac_tree x ≡ Some t) (mac_tree x ≡ Some t → ⊥)) (sym c.is_canonical_mac.ensures) (match_by _ (mac_by n x t k a))

@@ -1,0 +1,51 @@
+-- Why a program isn't run, and what it is run with.
+use Rattle.std.proofs.Common.{◌≡◌, ℕ, List, Option, None, Some, refl, sym, subst}
+use Rattle.cose_gate_command.specs.Arguments.{Arguments, AskArguments}
+use Rattle.cose_gate_command.specs.Asking.{AsksNot, IsNoAad}
+use Rattle.cose_gate_command.specs.Passing.{PassesNot, AcceptsNot}
+use Rattle.cose_gate_command.specs.declared.not_run.NotRun.{NotRun}
+use Rattle.cose_gate_command.specs.declared.not_run.NotRun.TheVariants as unrun
+
+pub asks_usage : (a : Option AskArguments) → a ≡ None → AsksNot a unrun.Usage
+asks_usage a e = subst (λ (z : Option AskArguments). AsksNot z unrun.Usage) (sym e) refl
+
+pub asks_not : (a : Option AskArguments) (b : AskArguments) (why : NotRun) → a ≡ Some b → IsNoAad b.aad why → AsksNot a why
+asks_not a b why e h = subst (λ (z : Option AskArguments). AsksNot z why) (sym e) h
+
+pub passes_usage : (a : Option Arguments) (file : Option (List ℕ)) → a ≡ None → PassesNot a file unrun.Usage
+passes_usage a file e = subst (λ (z : Option Arguments). PassesNot z file unrun.Usage) (sym e) refl
+
+pub passes_no_file : (a : Option Arguments) (b : Arguments) (file : Option (List ℕ)) → a ≡ Some b → file ≡ None → PassesNot a file unrun.NoFile
+passes_no_file a b file e f =
+    subst (λ (z : Option Arguments). PassesNot z file unrun.NoFile) (sym e) (subst (λ (z : Option (List ℕ)). PassesNot (Some b) z unrun.NoFile) (sym f) refl)
+
+both : (b : Arguments) (bytes : List ℕ) (a : Option Arguments) (file : Option (List ℕ)) (why : NotRun) → a ≡ Some b → file ≡ Some bytes
+    → PassesNot (Some b) (Some bytes) why → PassesNot a file why
+both b bytes a file why e f h =
+    subst (λ (z : Option Arguments). PassesNot z file why) (sym e) (subst (λ (z : Option (List ℕ)). PassesNot (Some b) z why) (sym f) h)
+
+no_aad : (b : Arguments) (bytes : List ℕ) (why : NotRun) → IsNoAad b.aad why → PassesNot (Some b) (Some bytes) why
+no_aad b bytes unrun.NotHex h = h
+no_aad b bytes unrun.Memory h = tt
+no_aad b bytes unrun.Usage h = absurd h
+no_aad b bytes unrun.NoFile h = absurd h
+no_aad b bytes unrun.NoRecords h = absurd h
+no_aad b bytes (unrun.LineNotHex n) h = absurd h
+no_aad b bytes (unrun.LineNoRecord n) h = absurd h
+no_aad b bytes unrun.Output h = absurd h
+
+no_records : (b : Arguments) (bytes : List ℕ) (why : NotRun) → AcceptsNot bytes why → PassesNot (Some b) (Some bytes) why
+no_records b bytes unrun.NotHex h = absurd h.1
+no_records b bytes unrun.Memory h = tt
+no_records b bytes unrun.Usage h = h
+no_records b bytes unrun.NoFile h = h
+no_records b bytes unrun.NoRecords h = h
+no_records b bytes (unrun.LineNotHex n) h = h
+no_records b bytes (unrun.LineNoRecord n) h = h
+no_records b bytes unrun.Output h = h
+
+pub passes_no_aad : (b : Arguments) (bytes : List ℕ) (a : Option Arguments) (file : Option (List ℕ)) (why : NotRun) → a ≡ Some b → file ≡ Some bytes → IsNoAad b.aad why → PassesNot a file why
+passes_no_aad b bytes a file why e f h = both b bytes a file why e f (no_aad b bytes why h)
+
+pub passes_no_records : (b : Arguments) (bytes : List ℕ) (a : Option Arguments) (file : Option (List ℕ)) (why : NotRun) → a ≡ Some b → file ≡ Some bytes → AcceptsNot bytes why → PassesNot a file why
+passes_no_records b bytes a file why e f h = both b bytes a file why e f (no_records b bytes why h)

@@ -1,0 +1,20 @@
+use Rattle.std.proofs.Common.{refl, sym, ap, ◌∙◌}
+use Rattle.std.specs.Prelude.{option_map}
+use Rattle.std.proofs.lemmas.Result.{err_from_is_err_and}
+use Rattle.cose_gate_command.specs.Arguments.{ask_view}
+use Rattle.cose_gate_command.specs.Asking.{not_run, after_run}
+use Rattle.cose_gate_command.proofs.Ends.{usually}
+use Rattle.cose_gate_command.proofs.NotRuns.{asks_usage, asks_not}
+use Rattle.cose_gate_command.proofs.asking.ask.Goals as goal
+
+pub returns-in_default-clause-ran : goal.returns-in_default-clause-ran
+returns-in_default-clause-ran g c = not_run _ (asks_usage _ (sym c.ask_arguments.ensures ∙ ap (option_map ask_view) c.in_default.is)) refl refl refl refl
+
+pub returns-in_err-aad-clause-ran : goal.returns-in_err-aad-clause-ran
+returns-in_err-aad-clause-ran g c =
+    let p = err_from_is_err_and c.from_residual.result c.from_residual.ensures.1 in
+    rw (p.1, p.2) (not_run _ (asks_not _ (ask_view c.in-Some.arguments) _ (sym c.ask_arguments.ensures ∙ ap (option_map ask_view) c.in-Some.is) c.in_err-aad.ensures) refl refl refl refl)
+
+pub returns-clause-ran : goal.returns-clause-ran
+returns-clause-ran g c = after_run (ask_view c.in-Some.arguments) (sym c.ask_arguments.ensures ∙ ap (option_map ask_view) c.in-Some.is) _ c.in_ok-aad.ensures
+    (rw c.as_slice.ensures.value at (rw (usually c.default.result c.in-Some.arguments.strict c.default.ensures) at c.ask_by.ensures.ran))

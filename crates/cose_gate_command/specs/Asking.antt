@@ -1,0 +1,107 @@
+-- How cose-ask ends.
+use Rattle.std.specs.Prelude.{◌≡◌, ◌<◌, ℕ, ◌+◌, List, [], ◌∷◌, ◌++◌, flat_map, Option, None, Some, Bool, true, false, Result, Ok, Err, if◌then◌else◌}
+use Rattle.std.specs.Io.KnownBytes.{Appends}
+use Rattle.ciborium_ll.specs.Device.{AppendsFront}
+use Rattle.ciborium_ll.specs.declared.read.Read.{Ghosts as Reads}
+use Rattle.ciborium_ll.specs.declared.write.Write.{Ghosts as Writes}
+use Rattle.cose_gate_core.specs.Findings.{Bounds}
+use Rattle.cose_gate_core.specs.Questions.{Question}
+use Rattle.cose_gate_program.specs.Beginning.{aad_of}
+use Rattle.cose_gate_program.specs.Lines.{line_of, lines_of}
+use Rattle.cose_gate_program.specs.Program.{Devices}
+use Rattle.cose_gate_program.specs.Telling.{RanTold}
+use Rattle.cose_gate_program.specs.Writing.{Wrote}
+use Rattle.cose_gate_program.specs.declared.telling.Notice.{Notice}
+use Rattle.cose_gate_program.specs.declared.telling.Notice.TheVariants as notice
+use Rattle.cose_gate_records.specs.Records.{record_of}
+use Rattle.cose_gate_command.specs.Arguments.{AskArguments}
+use Rattle.cose_gate_command.specs.Ends.{bounds_by}
+use Rattle.cose_gate_command.specs.declared.not_run.NotRun.{NotRun}
+use Rattle.cose_gate_command.specs.declared.not_run.NotRun.TheVariants as unrun
+
+-- the status if a program doesn't run, or ends without its output
+abbrev pub status_of : NotRun → ℕ
+status_of unrun.Usage = 2
+status_of unrun.NotHex = 2
+status_of unrun.NoFile = 3
+status_of unrun.NoRecords = 3
+status_of (unrun.LineNotHex n) = 3
+status_of (unrun.LineNoRecord n) = 3
+status_of unrun.Memory = 4
+status_of unrun.Output = 4
+
+-- AADHEX is no hex, or it is out of memory
+abbrev pub IsNoAad : Option (List ℕ) → NotRun → Type 0
+IsNoAad aad unrun.NotHex = aad_of aad ≡ None
+IsNoAad aad unrun.Memory = Unit {0}
+IsNoAad aad why = ⊥
+
+-- why it isn't run with these arguments: there are none, or AADHEX is no hex, or it is out of
+-- memory
+abbrev pub AsksNot : Option AskArguments → NotRun → Type 0
+AsksNot None why = why ≡ unrun.Usage
+AsksNot (Some a) why = IsNoAad a.aad why
+
+-- a reader alone: its output goes nowhere
+abbrev pub reading : {R E : Type 0} → Reads R E → R → Devices
+reading r input = record {
+  left = r.left input;
+  written = None;
+  read_failures = r.failed input;
+  write_failures = 0;
+}
+
+-- the lines of the items among these notices
+abbrev pub item_line : Notice → List ℕ
+item_line (notice.Item e) = line_of (notice.Item e)
+item_line other = []
+
+abbrev pub item_lines : List Notice → List ℕ
+item_lines notices = flat_map item_line notices
+
+-- a text was written, or a beginning of it and then the writer failed
+abbrev pub Sent : {T E W F : Type 0} → Writes W F → W → W → Result T E → List ℕ → Type 0
+Sent w out out' (Ok x) text =
+    (w.failed out' ≡ w.failed out) × Appends (w.written out) (w.written out') text
+Sent w out out' (Err e) text = (w.failed out' ≡ w.failed out + 1)
+    × AppendsFront (w.written out) (w.written out') text
+
+abbrev pub Fails : {W F : Type 0} → Writes W F → W → W → NotRun → List ℕ → Type 0
+Fails w out out' unrun.Memory text = out' ≡ out
+Fails w out out' unrun.Output text =
+    Sent {T = ℕ} {E = NotRun} w out out' (Err unrun.Output) text
+Fails w out out' why text = ⊥
+
+-- the text was written; or the output failed; or nothing was written, out of memory
+abbrev pub Hands : {T W F : Type 0} → Writes W F → W → W → Result T NotRun → List ℕ → Type 0
+Hands w out out' (Ok s) text = Sent {E = NotRun} w out out' (Ok s) text
+Hands w out out' (Err why) text = Fails w out out' why text
+
+-- the lines of a run, without the last one if it ended without its output
+abbrev pub lines_if : Result ℕ NotRun → List Notice → List ℕ
+lines_if (Ok s) notices = lines_of notices
+lines_if (Err why) notices = item_lines notices
+
+-- the status of the run, if it ended with its output
+abbrev pub IsStatus : Result ℕ NotRun → ℕ → Type 0
+IsStatus (Ok s) status = s ≡ status
+IsStatus (Err why) status = Unit {0}
+
+-- the gate ran over the input, with a judge that says yes to each question: the records of the
+-- questions that were asked are handed out, after the lines of the items and before the last one
+abbrev pub Asked : {W F E G : Type 0} (w : Writes W F) (e : Writes E G) → Bounds → Bool → List ℕ
+    → Devices → Devices → W → W → E → E → Result ℕ NotRun → Type 0
+Asked w e limits lines aad old new out out' err err' result = (status : ℕ)
+    × IsStatus result status × RanTold limits (λ _. true) aad old new status
+    (λ asked. lines ≡ false → Hands w out out' result (flat_map record_of asked))
+    (λ notices. Wrote e err err' (lines_if result notices))
+
+-- how cose-ask ends with these arguments: that, or it isn't run, and nothing was read, written or
+-- told
+pub data Asks {W F E G : Type 0} (w : Writes W F) (e : Writes E G) (a : Option AskArguments)
+    (old new : Devices) (out out' : W) (err err' : E) (result : Result ℕ NotRun) : Type 0 where
+  not_run : (why : NotRun) → AsksNot a why → result ≡ Err why → new ≡ old → out' ≡ out
+      → err' ≡ err → Asks w e a old new out out' err err' result
+  after_run : (b : AskArguments) → a ≡ Some b → (d : List ℕ) → aad_of b.aad ≡ Some d
+      → Asked w e (bounds_by b.strict) b.lines d old new out out' err err' result
+      → Asks w e a old new out out' err err' result

@@ -1,0 +1,5 @@
+use Rattle.coset_maced.proofs.CanonicalSteps.{no_last}
+use Rattle.coset_maced.proofs.as_written.is_canonical_last.Goals as goal
+
+pub returns-in_default : goal.returns-in_default
+returns-in_default c = no_last c.args.items.now c.in_default.len_below

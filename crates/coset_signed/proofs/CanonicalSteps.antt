@@ -1,0 +1,12 @@
+-- What the tests of the code say of values.
+use Rattle.std.proofs.Common.{◌≡◌, ◌<◌, List, [], ◌∷◌, length, false, refl, arith}
+use Rattle.ciborium_value.specs.View.{views}
+use Rattle.ciborium_value.specs.declared.value.Value.{Value}
+use Rattle.coset_signed.specs.AsWritten.{is_canonical_last}
+
+pub no_last : (xs : List Value) → length xs < 4 → false ≡ is_canonical_last (views xs)
+no_last [] h = refl
+no_last (a ∷ []) h = refl
+no_last (a ∷ b ∷ []) h = refl
+no_last (a ∷ b ∷ c ∷ []) h = refl
+no_last (a ∷ b ∷ c ∷ d ∷ es) h = absurd (omega (arith, h))
