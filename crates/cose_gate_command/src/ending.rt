@@ -1,7 +1,7 @@
 //! The lines of a run whose last one waits.
 ghost use Rattle.std.specs.Prelude.{◌≡◌, ◌∷◌, []};
 ghost use Rattle.cose_gate_command.specs.Waiting.{Waiting, last_line, waits, waits_after};
-ghost use Rattle.cose_gate_program.specs.Writing.{LinesWritten, LinesWritten-prop, Wrote};
+ghost use Rattle.cose_gate_program.specs.Writing.{WroteLines, WroteLines-prop, Wrote};
 
 use ciborium_ll::Write;
 use ciborium_ll::log::Log;
@@ -16,7 +16,7 @@ pub(crate) struct Ending<'a, W: Write> {
     /// What was told of items, and what the writer was at first. It is in contracts alone.
     said: &'a mut Log<Notice>,
     begun: Log<W>,
-    ghost spoke: { LinesWritten W.Write begun out.now said.now } by { LinesWritten-prop W.Write _ _ _ },
+    ghost spoke: { WroteLines W.Write begun out.now said.now } by { WroteLines-prop W.Write _ _ _ },
 }
 
 impl<'a, W: Write> Ending<'a, W> {

@@ -1,6 +1,6 @@
 //! The lines of the program, and what is said more.
 ghost use Rattle.std.specs.Prelude.{◌≡◌, ◌++◌, ◌∷◌, [], true};
-ghost use Rattle.cose_gate_command.specs.QuietLines.{IfQuiet, IfQuiet-prop, QuietLines};
+ghost use Rattle.cose_gate_command.specs.QuietLines.{Quiet, Quiet-prop, QuietLines};
 
 use crate::explained::Note;
 use crate::more::{Text, say_refusal, say_stop};
@@ -32,7 +32,7 @@ pub(crate) struct Said<'o, 'n, W: Write> {
     /// What was told, and what the writer was at first. It is in contracts alone.
     told: &'o mut Log<Notice>,
     was: &'o Log<W>,
-    ghost is: { IfQuiet W.Write verbose was.now out.now told.now } by { IfQuiet-prop W.Write _ _ _ _ },
+    ghost is: { Quiet W.Write verbose was.now out.now told.now } by { Quiet-prop W.Write _ _ _ _ },
 }
 
 impl<'o, 'n, W: Write> Said<'o, 'n, W> {

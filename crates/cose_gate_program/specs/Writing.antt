@@ -35,12 +35,12 @@ WroteSince-prop w [] new text = Unit-prop
 WroteSince-prop w (old ∷ more) new text = Wrote-prop w old new text
 
 -- the lines of what was told were written since a writer was as in a log
-abbrev pub LinesWritten : {W F : Type 0} → Writes W F → Log W → W → Log Notice → Type 0
-LinesWritten w begun now told = WroteSince w begun.items now (lines_of told.items)
+abbrev pub WroteLines : {W F : Type 0} → Writes W F → Log W → W → Log Notice → Type 0
+WroteLines w begun now told = WroteSince w begun.items now (lines_of told.items)
 
-pub LinesWritten-prop : {W F : Type 0} (w : Writes W F) (begun : Log W) (now : W) (told : Log Notice)
-    → IsProp (LinesWritten w begun now told)
-LinesWritten-prop w begun now told = WroteSince-prop w begun.items now (lines_of told.items)
+pub WroteLines-prop : {W F : Type 0} (w : Writes W F) (begun : Log W) (now : W) (told : Log Notice)
+    → IsProp (WroteLines w begun now told)
+WroteLines-prop w begun now told = WroteSince-prop w begun.items now (lines_of told.items)
 
 -- lines on a writer that is lent: what the writer was at first, and what was told since
 pub record LentLines (W : Type 0) : Type 0 where

@@ -4,7 +4,7 @@ ghost use Rattle.std.specs.Fmt.{decimal};
 ghost use Rattle.cose_gate_program.specs.Lines as spec;
 ghost use Rattle.cose_gate_program.specs.Lines.{line_of};
 ghost use Rattle.ciborium_ll.specs.declared.log.Log.{Log};
-ghost use Rattle.cose_gate_program.specs.Writing.{Wrote, LinesWritten, LinesWritten-prop};
+ghost use Rattle.cose_gate_program.specs.Writing.{Wrote, WroteLines, WroteLines-prop};
 ghost use Rattle.cose_gate_program.specs.Writing.{LentLines};
 
 use crate::beginning::NotBegun;
@@ -244,8 +244,8 @@ fn write_last<W: Write>(text: &[u8], out: &mut W)
 
 /// Hands on the lines that a writer holds back.
 pub fn hand_on<W: Write>(out: &mut W)
-    ensures { (begun : Log W) (told : Log Notice) → LinesWritten W.Write begun out.old told
-        → LinesWritten W.Write begun out.new told }
+    ensures { (begun : Log W) (told : Log Notice) → WroteLines W.Write begun out.old told
+        → WroteLines W.Write begun out.new told }
 {
     let _ = out.flush();
 }
@@ -257,7 +257,7 @@ pub(crate) struct Lines<'a, W: Write> {
     /// What was told, and what the writer was at first. It is in contracts alone.
     told: &'a mut Log<Notice>,
     begun: Log<W>,
-    ghost wrote: { LinesWritten W.Write begun out.now told.now } by { LinesWritten-prop W.Write _ _ _ },
+    ghost wrote: { WroteLines W.Write begun out.now told.now } by { WroteLines-prop W.Write _ _ _ },
 }
 
 impl<'a, W: Write> Lines<'a, W> {
@@ -275,8 +275,8 @@ impl<'a, W: Write> Lines<'a, W> {
 
 /// Writes the line of a notice, and adds it to a log of what was told.
 pub fn write_logged<W: Write>(notice: &Notice, out: &mut W, told: &mut Log<Notice>)
-    ensures wrote { (begun : Log W) → LinesWritten W.Write begun out.old told.old
-        → LinesWritten W.Write begun out.new told.new }
+    ensures wrote { (begun : Log W) → WroteLines W.Write begun out.old told.old
+        → WroteLines W.Write begun out.new told.new }
     ensures told { told.new.items ≡ told.old.items ++ notice.now ∷ [] }
 {
     write_notice(notice, out);

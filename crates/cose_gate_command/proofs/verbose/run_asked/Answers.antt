@@ -5,7 +5,7 @@ use Rattle.cose_gate_program.specs.Telling.{not_begun}
 use Rattle.cose_gate_program.specs.Writing.{Wrote}
 use Rattle.cose_gate_program.specs.declared.telling.Notice.TheVariants.{NotBegun}
 use Rattle.cose_gate_program.proofs.Tellings.{began, ran_as}
-use Rattle.cose_gate_command.proofs.SaidIfQuiet.{said_alone, same_writer}
+use Rattle.cose_gate_command.proofs.SaidQuiet.{said_alone, same_writer}
 use Rattle.cose_gate_command.proofs.Ends.{lent_on}
 use Rattle.cose_gate_command.proofs.Reasons.{plain_run}
 use Rattle.cose_gate_command.proofs.verbose.run_asked.Goals as goal
