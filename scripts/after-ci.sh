@@ -31,11 +31,11 @@ rows() {
 0|||cose-pass --help | cmp - <(../cose-pass --help) && cose-pass -h | cmp - <(../cose-pass --help)
 0|||cose-show --json --help | cmp - <(../cose-show --help) && cose-show -h | cmp - <(../cose-show --help)
 0|||for name in gate ask pass show; do cose-$name --version; done | cmp - <(printf 'cose-%s 0.8\n' gate ask pass show)
-2|/dev/null|usage: cose-gate [--strict] [--verbose] KEYS [AADHEX] < INPUT > PASSED|cose-gate --strict
-2|/dev/null|usage: cose-gate [--strict] [--verbose] KEYS [AADHEX] < INPUT > PASSED|cose-gate keys.cbor 01 02 < one.cbor
-2|/dev/null|usage: cose-gate [--strict] [--verbose] KEYS [AADHEX] < INPUT > PASSED|cose-gate keys.cbor $'\xff' < one.cbor
-2|/dev/null|usage: cose-gate [--strict] [--verbose] KEYS [AADHEX] < INPUT > PASSED|../cose-gate --strikt keys.cbor
-2|/dev/null|usage: cose-gate [--strict] [--verbose] KEYS [AADHEX] < INPUT > PASSED|cose-gate keys.cbor --strikt < one.cbor
+2|/dev/null|usage: cose-gate [--strict] [--verbose] [--quiet] KEYS [AADHEX] < INPUT > PASSED|cose-gate --strict
+2|/dev/null|usage: cose-gate [--strict] [--verbose] [--quiet] KEYS [AADHEX] < INPUT > PASSED|cose-gate keys.cbor 01 02 < one.cbor
+2|/dev/null|usage: cose-gate [--strict] [--verbose] [--quiet] KEYS [AADHEX] < INPUT > PASSED|cose-gate keys.cbor $'\xff' < one.cbor
+2|/dev/null|usage: cose-gate [--strict] [--verbose] [--quiet] KEYS [AADHEX] < INPUT > PASSED|../cose-gate --strikt keys.cbor
+2|/dev/null|usage: cose-gate [--strict] [--verbose] [--quiet] KEYS [AADHEX] < INPUT > PASSED|cose-gate keys.cbor --strikt < one.cbor
 2|/dev/null|usage: cose-ask [--strict] [--lines] [AADHEX]|cose-ask --strikt < one.cbor
 2|/dev/null|usage: cose-ask [--strict] [--lines] [AADHEX]|cose-ask 01 02 < one.cbor
 2|/dev/null|usage: cose-ask [--strict] [--lines] [AADHEX]|cose-ask $'\xff' < one.cbor

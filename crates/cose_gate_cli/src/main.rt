@@ -1,7 +1,7 @@
-//! `cose-gate [--strict] [--verbose] KEYS [AADHEX]`: reads a CBOR sequence from standard input, and
+//! `cose-gate [--strict] [--verbose] [--quiet] KEYS [AADHEX]`: reads a CBOR sequence from standard input, and
 //! writes the messages whose tags are good under the keys of the file KEYS to standard output.
 //! AADHEX is the external data in hex. With `--strict` only messages in canonical encoding pass;
-//! with `--verbose` standard error says more.
+//! with `--verbose` standard error says more, with `--quiet` nothing of what passed.
 #![tactic(auto)]
 
 ghost use Rattle.std.specs.Prelude.{map, option_copied, string_bytes};
@@ -27,13 +27,14 @@ const VERSION: &str = "cose-gate 0.8\n";
 
 /// What `-h` and `--help` print. The script `cose-gate` prints the same.
 const HELP: &str = "\
-usage: cose-gate [--strict] [--verbose] KEYS [AADHEX] < INPUT > PASSED
+usage: cose-gate [--strict] [--verbose] [--quiet] KEYS [AADHEX] < INPUT > PASSED
 Reads a CBOR sequence, and writes the messages that pass, each in canonical encoding.
 What passes: a COSE_Mac0 in its tag 17, whose MAC is HMAC with SHA-256 under its first matching key.
 KEYS: a file with a COSE_KeySet. AADHEX: the external data in hex, empty if it is left out.
 With --strict a message that isn't in canonical encoding already is refused: NotShortest.
 On standard error: a line for each item, and at the end how many passed and were refused.
 With --verbose indented lines after these say why an item is refused, or the run stops.
+With --quiet an item that passed has no line.
 Status 0: no item was refused. 1: some were. 2: wrong arguments, or AADHEX is not hex.
 3: KEYS can't be read, or isn't a key set. 4: the input isn't CBOR, input or output failed, or
 it is out of memory.

@@ -5,10 +5,11 @@ use Rattle.cose_gate_command.specs.declared.arguments.Arguments.{Arguments as He
 use Rattle.cose_gate_command.specs.declared.options.AskArguments.{AskArguments as HeldAsk}
 use Rattle.cose_gate_command.specs.declared.options.PassArguments.{PassArguments as HeldPass}
 
--- what the arguments of cose-gate ask for: [--strict] [--verbose] KEYS [AADHEX]
+-- what the arguments of cose-gate ask for: [--strict] [--verbose] [--quiet] KEYS [AADHEX]
 pub record Arguments : Type 0 where
   pub strict : Bool
   pub verbose : Bool
+  pub quiet : Bool
   pub keys : List ℕ
   pub aad : Option (List ℕ)
 
@@ -16,6 +17,7 @@ abbrev pub arguments_view : Held → Arguments
 arguments_view a = record {
   strict = a.strict;
   verbose = a.verbose;
+  quiet = a.quiet;
   keys = a.keys.now;
   aad = option_copied a.aad;
 }
@@ -29,22 +31,29 @@ abbrev pub has : List ℕ → List (List ℕ) → Bool
 has word [] = false
 has word (w ∷ ws) = bytes_eq w word || has word ws
 
--- no option has another name than this one and --strict
-abbrev pub are_known : List ℕ → List (List ℕ) → Bool
-are_known name [] = true
-are_known name (w ∷ ws) =
-    (not (is_option w) || (bytes_eq w (codes "--strict") || bytes_eq w name)) && are_known name ws
+-- each option is --strict or one of a program's own
+abbrev pub are_known : (List ℕ → Bool) → List (List ℕ) → Bool
+are_known own [] = true
+are_known own (w ∷ ws) =
+    (not (is_option w) || (bytes_eq w (codes "--strict") || own w)) && are_known own ws
+
+-- those of cose-gate and of cose-ask
+abbrev pub gates : List ℕ → Bool
+gates w = bytes_eq w (codes "--verbose") || bytes_eq w (codes "--quiet")
+
+abbrev pub asks : List ℕ → Bool
+asks w = bytes_eq w (codes "--lines")
 
 -- KEYS, and AADHEX if it is there, with these options
-abbrev pub of_files : Bool → Bool → List (List ℕ) → Option Arguments
-of_files s v ws = option_map
-    (λ w. record { strict = s; verbose = v; keys = w.0; aad = w.1 }) (words ws)
+abbrev pub of_files : Bool → Bool → Bool → List (List ℕ) → Option Arguments
+of_files s v q ws = option_map
+    (λ w. record { strict = s; verbose = v; quiet = q; keys = w.0; aad = w.1 }) (words ws)
 
 -- the options, anywhere, and the other words
 abbrev pub arguments : List (List ℕ) → Option Arguments
 arguments ws =
-    if are_known (codes "--verbose") ws
-    then of_files (has (codes "--strict") ws) (has (codes "--verbose") ws)
+    if are_known gates ws
+    then of_files (has (codes "--strict") ws) (has (codes "--verbose") ws) (has (codes "--quiet") ws)
     (filter (λ w. not (is_option w)) ws)
     else None
 
@@ -61,17 +70,18 @@ of_aad s l (aad ∷ more ∷ ws) = None
 
 abbrev pub ask_arguments : List (List ℕ) → Option AskArguments
 ask_arguments ws =
-    if are_known (codes "--lines") ws
+    if are_known asks ws
     then of_aad (has (codes "--strict") ws) (has (codes "--lines") ws)
     (filter (λ w. not (is_option w)) ws)
     else None
 
--- the arguments of cose-pass: those of cose-gate without --verbose, with ACCEPTED as KEYS
-abbrev pub unless_verbose : Arguments → Option Arguments
-unless_verbose a = if a.verbose then None else Some a
+-- the arguments of cose-pass: those of cose-gate without --verbose and --quiet, with ACCEPTED as
+-- KEYS
+abbrev pub if_plain : Arguments → Option Arguments
+if_plain a = if a.verbose || a.quiet then None else Some a
 
 abbrev pub pass_arguments : List (List ℕ) → Option Arguments
-pass_arguments ws = option_and_then unless_verbose (arguments ws)
+pass_arguments ws = option_and_then if_plain (arguments ws)
 
 -- the same, as the code has them
 abbrev pub ask_view : HeldAsk → AskArguments
@@ -81,6 +91,7 @@ abbrev pub pass_view : HeldPass → Arguments
 pass_view a = record {
   strict = a.strict;
   verbose = false;
+  quiet = false;
   keys = a.accepted.now;
   aad = option_copied a.aad;
 }

@@ -1,5 +1,5 @@
 -- How the program ends by its arguments.
-use Rattle.std.specs.Prelude.{◌≡◌, ℕ, List, Option, None, Some, Bool, false, codes}
+use Rattle.std.specs.Prelude.{◌≡◌, ℕ, List, Option, None, Some, Bool, codes}
 use Rattle.ciborium_ll.specs.declared.write.Write.{Ghosts as Writes}
 use Rattle.cose_gate_core.specs.Findings.{Bounds, excluded_by}
 use Rattle.cose_gate_program.specs.Beginning.{aad_of}
@@ -9,7 +9,7 @@ use Rattle.cose_gate_program.specs.Telling.{EndsTold}
 use Rattle.cose_gate_program.specs.Writing.{Wrote}
 use Rattle.coset_labels.specs.Limits.{nesting, layers}
 use Rattle.cose_gate_command.specs.Arguments.{Arguments}
-use Rattle.cose_gate_command.specs.KeyFiles.{lines_with}
+use Rattle.cose_gate_command.specs.Said.{Says}
 
 -- the limits if none are chosen, of the gate or of the strict gate
 abbrev pub bounds_by : Bool → Bounds
@@ -20,12 +20,12 @@ bounds_by strict = record {
 }
 
 -- the arguments say how the program is run over what KEYS holds, which can't be read for this fault
--- if it holds nothing, and unless it is verbose the lines are those of the run; without them its
--- status is that of wrong arguments, the line is the usage, and nothing was read or written
+-- if it holds nothing, and the lines are those of the run; without them its status is that of wrong
+-- arguments, the line is the usage, and nothing was read or written
 abbrev pub EndsBy : {W F : Type 0} (w : Writes W F) → Option Arguments → Option (List ℕ) → List ℕ
     → Devices → Devices → ℕ → W → W → Type 0
 EndsBy w None keys fault old new status err err' = (status ≡ 2) × (new ≡ old) × Wrote w err err'
-    (codes "usage: cose-gate [--strict] [--verbose] KEYS [AADHEX] < INPUT > PASSED\n")
+    (codes "usage: cose-gate [--strict] [--verbose] [--quiet] KEYS [AADHEX] < INPUT > PASSED\n")
 EndsBy w (Some a) keys fault old new status err err' =
     EndsTold (bounds_by a.strict) says_yes keys (aad_of a.aad) old new status
-    (λ notices. a.verbose ≡ false → Wrote w err err' (lines_with fault keys notices))
+    (Says w a.verbose a.quiet fault keys err err')

@@ -1,14 +1,11 @@
 -- Why KEYS can't be used, in words.
-use Rattle.std.specs.Prelude.{ℕ, List, [], ◌∷◌, ◌++◌, Option, None, Some, Bool, false, ◌&&◌, ◌||◌, nat_eq, nat_le, if◌then◌else◌, codes, flat_map, length}
+use Rattle.std.specs.Prelude.{ℕ, List, [], ◌∷◌, ◌++◌, Option, None, Some, Bool, false, ◌&&◌, ◌||◌, nat_eq, nat_le, if◌then◌else◌, codes, length}
 use Rattle.std.specs.List.{list_all, starts_with}
 use Rattle.std.specs.Char.{is_ascii_hexdigit, is_ascii_alphanumeric, is_ascii_whitespace}
 use Rattle.coset_labels.specs.declared.error.CoseError.{CoseError}
 use Rattle.coset_labels.specs.declared.error.CoseError.TheVariants as cose
-use Rattle.cose_gate_program.specs.Lines.{line_of}
 use Rattle.cose_gate_program.specs.declared.beginning.NotBegun.{NotBegun as Unbegun}
 use Rattle.cose_gate_program.specs.declared.beginning.NotBegun.TheVariants as unbegun
-use Rattle.cose_gate_program.specs.declared.telling.Notice.{Notice}
-use Rattle.cose_gate_program.specs.declared.telling.Notice.TheVariants as notice
 
 -- a line that begins with two blanks
 abbrev pub indented : List ℕ → List ℕ
@@ -65,15 +62,3 @@ reason_line fault keys unbegun.NoFile = indented fault
 reason_line fault keys unbegun.NotHex = []
 reason_line fault keys (unbegun.NoKeys e) = indented (what_is (bytes_or_none keys) e)
 reason_line fault keys unbegun.Memory = []
-
--- the line of a notice, and that line after it
-abbrev pub line_with : List ℕ → Option (List ℕ) → Notice → List ℕ
-line_with fault keys (notice.NotBegun why) =
-    line_of (notice.NotBegun why) ++ reason_line fault keys why
-line_with fault keys (notice.Item e) = line_of (notice.Item e)
-line_with fault keys (notice.Counts c) = line_of (notice.Counts c)
-line_with fault keys (notice.Stopped f) = line_of (notice.Stopped f)
-
--- the lines of these notices, if KEYS couldn't be read for this fault, or holds these bytes
-abbrev pub lines_with : List ℕ → Option (List ℕ) → List Notice → List ℕ
-lines_with fault keys notices = flat_map (line_with fault keys) notices

@@ -4,5 +4,5 @@ pub mod Ends
 pub mod KeyFiles
 pub mod Options
 pub mod Passing
-pub mod QuietLines
+pub mod Said
 pub mod Waiting

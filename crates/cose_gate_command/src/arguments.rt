@@ -12,21 +12,24 @@ pub struct Arguments<'a> {
     pub strict: bool,
     /// More is said of refusals and stops.
     pub verbose: bool,
+    /// Nothing is said of an item that passed.
+    pub quiet: bool,
     /// The name of the file with the key set.
     pub keys: &'a str,
     /// The external data in hex.
     pub aad: Option<&'a str>,
 }
 
-/// What the arguments after the program's name ask for: `--strict` and `--verbose`, anywhere, KEYS,
-/// and AADHEX if it is there; `None` if they are anything else. A file of such a name is
-/// `./--strict`.
+/// What the arguments after the program's name ask for: `--strict`, `--verbose` and `--quiet`,
+/// anywhere, KEYS, and AADHEX if it is there; `None` if they are anything else. A file of such a
+/// name is `./--strict`.
 pub fn read_arguments(all: &[String]) -> Option<Arguments<'_>>
     ensures { option_map arguments_view result ≡ spec.arguments (map string_bytes all.now) }
 {
     let mut words = Words {
         strict: false,
         verbose: false,
+        quiet: false,
         files: None,
     };
     for word in all {
@@ -38,6 +41,7 @@ pub fn read_arguments(all: &[String]) -> Option<Arguments<'_>>
     Some(Arguments {
         strict: words.strict,
         verbose: words.verbose,
+        quiet: words.quiet,
         keys,
         aad,
     })
@@ -48,6 +52,7 @@ pub fn read_arguments(all: &[String]) -> Option<Arguments<'_>>
 struct Words<'a> {
     strict: bool,
     verbose: bool,
+    quiet: bool,
     files: Option<(&'a str, Option<&'a str>)>,
 }
 
@@ -60,6 +65,7 @@ impl<'a> Words<'a> {
         match word {
             "--strict" => self.strict = true,
             "--verbose" => self.verbose = true,
+            "--quiet" => self.quiet = true,
             word if is_option(word) => return false,
             word => match self.files {
                 None => self.files = Some((word, None)),

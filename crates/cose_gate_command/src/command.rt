@@ -12,7 +12,8 @@ use cose_gate_program::{Limits, Terms};
 use std::alloc::Global;
 
 /// The line for other arguments.
-pub const USAGE: &str = "usage: cose-gate [--strict] [--verbose] KEYS [AADHEX] < INPUT > PASSED\n";
+pub const USAGE: &str =
+    "usage: cose-gate [--strict] [--verbose] [--quiet] KEYS [AADHEX] < INPUT > PASSED\n";
 
 /// The program over the arguments after its name, if `keys` is what the file holds that they name,
 /// or `fault` says why it can't be read. If they aren't its arguments nothing is read, the
@@ -48,14 +49,5 @@ pub fn program<'a, R: Read, W: Write, E: Write>(
         bytes: keys,
         fault,
     };
-    run_asked(
-        alloc,
-        terms,
-        asked.verbose,
-        file,
-        asked.aad,
-        input,
-        out,
-        err,
-    )
+    run_asked(alloc, terms, asked, file, input, out, err)
 }

@@ -6,13 +6,34 @@ use cose_reasons::{KeyBook, OTHER_KIND, Page, secret_or_reason, write_wrong_tag}
 use std::alloc::{AllocError, Global};
 use std::cell::RefCell;
 
-/// Why the judge said no to the question at hand.
+/// More than the texts of `more` take, but for a reason.
+const LINE: usize = 256;
+
+/// Why the judge said no to the question at hand, and what is said before that.
 #[derive(Drop)]
 pub(crate) struct Note {
     /// The reason; empty if none is known.
     pub(crate) reason: String,
     /// Whether the question is about one signature of several.
     pub(crate) is_of_signer: bool,
+    /// The front of a line. It has memory from the beginning, so that a run tells that it is out of
+    /// memory.
+    pub(crate) line: String,
+}
+
+impl Note {
+    /// Of no question yet. It has memory for a line, if it is asked for.
+    pub(crate) fn new(alloc: Global, is_asked: bool) -> Note {
+        let mut line = String::new(alloc);
+        if is_asked {
+            let _ = line.reserve(LINE);
+        }
+        Note {
+            reason: String::new(alloc),
+            is_of_signer: false,
+            line,
+        }
+    }
 }
 
 /// Why the judge by HMAC with these keys says no to the question at hand. If out of memory, no

@@ -1,13 +1,16 @@
 //! What is said of KEYS.
-ghost use Rattle.std.specs.Prelude.{◌≡◌, option_copied};
+ghost use Rattle.std.specs.Prelude.{◌≡◌, option_copied, true};
 ghost use Rattle.std.specs.List.{list_all};
 ghost use Rattle.cose_gate_program.specs.Writing.{Wrote};
 ghost use Rattle.cose_gate_command.specs.KeyFiles as spec;
+ghost use Rattle.cose_gate_command.specs.Said.{Adds};
 
+use crate::more::{flush, write_indented, write_more};
 use ciborium_ll::Write;
 use cose_gate_program::NotBegun;
 use cose_reasons::{Page, write_char};
 use coset_labels::CoseError;
+use std::alloc::Global;
 use std::fmt;
 
 /// The file KEYS.
@@ -28,8 +31,8 @@ pub(crate) fn write_reason<W: Write>(why: NotBegun, file: KeyFile<'_>, out: &mut
         (spec.reason_line file.entry.fault.now (option_copied file.entry.bytes) why) }
 {
     match why {
-        NotBegun::NoFile => write_indented(file.fault, out),
-        NotBegun::NoKeys(error) => write_indented(what_is(bytes_of(file), error), out),
+        NotBegun::NoFile => write_line(file.fault, out),
+        NotBegun::NoKeys(error) => write_line(what_is(bytes_of(file), error), out),
         NotBegun::NotHex | NotBegun::Memory => {}
     }
 }
@@ -42,17 +45,32 @@ fn bytes_of(file: KeyFile<'_>) -> &[u8]
 }
 
 /// Writes a line that begins with two blanks, and flushes the writer. A fault of it is ignored.
-fn write_indented<W: Write>(text: &str, out: &mut W)
+fn write_line<W: Write>(text: &str, out: &mut W)
     ensures { Wrote W.Write out.old out.new (spec.indented text.now) }
 {
-    let _ = out.write_all(b"  ");
-    let _ = out.write_all(text.as_bytes());
-    let _ = out.write_all(b"\n");
+    write_indented(text, "", out);
     let _ = out.flush();
 }
 
+/// Says more of a run that doesn't begin with these arguments. Out of memory it may say less.
+pub(crate) fn say_not_begun<W: Write>(
+    alloc: Global,
+    why: NotBegun,
+    file: KeyFile<'_>,
+    aad: Option<&str>,
+    out: &mut W,
+)
+    ensures { Adds W.Write true out.old out.new }
+{
+    let mut text = String::new(alloc);
+    put_not_begun(why, file, aad, &mut Page::new(&mut text));
+    write_more(text.as_str(), "", out);
+    write_more(rule(why), "", out);
+    flush(out);
+}
+
 /// Writes why a run with these arguments doesn't begin.
-pub(crate) fn say_not_begun<P: fmt::Write>(
+fn put_not_begun<P: fmt::Write>(
     why: NotBegun,
     file: KeyFile<'_>,
     aad: Option<&str>,
@@ -60,23 +78,28 @@ pub(crate) fn say_not_begun<P: fmt::Write>(
 ) {
     match why {
         NotBegun::NoFile => {
-            say_name(file.name, page);
+            put_name(file.name, page);
             page.write_str(file.fault);
-            page.write_str("\n");
         }
-        NotBegun::NotHex => say_not_hex(aad.unwrap_or(""), page),
+        NotBegun::NotHex => put_not_hex(aad.unwrap_or(""), page),
         NotBegun::NoKeys(error) => {
-            say_name(file.name, page);
+            put_name(file.name, page);
             page.write_str(what_is(bytes_of(file), error));
-            page.write_str("\n  KEYS has to be a COSE_KeySet (RFC 9052, section 7), in binary\n");
         }
         NotBegun::Memory => {}
     }
 }
 
+/// What KEYS has to be, if it is something else.
+fn rule(why: NotBegun) -> &'static str {
+    match why {
+        NotBegun::NoKeys(_) => { "KEYS has to be a COSE_KeySet (RFC 9052, section 7), in binary" }
+        NotBegun::NoFile | NotBegun::NotHex | NotBegun::Memory => "",
+    }
+}
+
 /// The name of a file, escaped, so that it can't steer a terminal or look like another line.
-fn say_name<P: fmt::Write>(name: &str, page: &mut Page<'_, P>) {
-    page.write_str("  ");
+fn put_name<P: fmt::Write>(name: &str, page: &mut Page<'_, P>) {
     for c in name.chars() {
         write_char(c, false, page);
     }
@@ -84,17 +107,17 @@ fn say_name<P: fmt::Write>(name: &str, page: &mut Page<'_, P>) {
 }
 
 /// Why a string isn't bytes in hex: its first character that is no digit, or how many it has.
-fn say_not_hex<P: fmt::Write>(text: &str, page: &mut Page<'_, P>) {
+fn put_not_hex<P: fmt::Write>(text: &str, page: &mut Page<'_, P>) {
     for (index, c) in text.chars().enumerate() {
         if !c.is_ascii_hexdigit() {
             let place = index.saturating_add(1);
-            write!(page, "  AADHEX: character {place}, '");
+            write!(page, "AADHEX: character {place}, '");
             write_char(c, false, page);
-            page.write_str("', isn't a hex digit\n");
+            page.write_str("', isn't a hex digit");
             return;
         }
     }
-    page.write_str("  AADHEX: an odd number of digits\n");
+    page.write_str("AADHEX: an odd number of digits");
 }
 
 /// What a file looks like that is no key set for this reason.

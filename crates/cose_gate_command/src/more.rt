@@ -1,104 +1,187 @@
 //! What is said more of an item, or of a stop.
+ghost use Rattle.std.specs.Prelude.{◌≡◌, [], ◌++◌, true};
+ghost use Rattle.cose_gate_program.specs.Writing.{Wrote};
+ghost use Rattle.cose_gate_command.specs.KeyFiles.{indented};
+ghost use Rattle.cose_gate_command.specs.Said as spec;
+ghost use Rattle.cose_gate_command.specs.Said.{Adds};
+
 use crate::explained::Note;
 use ciborium_ll::Write;
-use cose_gate_core::{GateFault, Refusal, SemanticKind, de};
-use cose_gate_program::InputFault;
-use std::fmt;
+use cose_gate_core::{GateFault, Refusal, SemanticKind, Verdict, de};
+use cose_gate_program::{InputFault, Notice};
+use std::cell::RefCell;
+use std::fmt::{self, Write as _};
 
-/// Text to a writer.
-#[derive(Drop)]
-pub(crate) struct Text<'a, W> {
-    pub(crate) out: &'a mut W,
+/// The number of an item, and where it begins.
+#[derive(Debug, Clone, Copy, PartialEq, Eq)]
+pub(crate) struct Place {
+    pub(crate) number: usize,
+    pub(crate) offset: usize,
 }
 
-impl<'a, W: Write> fmt::Write for Text<'a, W> {
-    fn write_str(&mut self, text: &str) -> fmt::Result {
-        self.out.write_all(text.as_bytes()).map_err(|_| fmt::Error)
+/// Says more of a notice: what a refusal means, or what stopped a run whose next item is at this
+/// place. The note is that of the judge.
+pub(crate) fn say_more<W: Write>(notice: &Notice, place: Place, note: &RefCell<Note>, out: &mut W)
+    ensures { Adds W.Write true out.old out.new }
+{
+    let Ok(mut guard) = note.try_borrow_mut() else {
+        return;
+    };
+    let note = &mut *guard;
+    note.line.clear();
+    put_more(notice, place, note);
+    write_more(note.line.as_str(), note.reason.as_str(), out);
+    write_more(remedy(notice), "", out);
+    flush(out);
+}
+
+/// Puts what is said more of a notice into a note. A reason of the judge stays if it said no.
+fn put_more(notice: &Notice, place: Place, note: &mut Note) {
+    if let Notice::Item(entry) = notice
+        && let Verdict::Refused(Refusal::Judged(index)) = entry.verdict
+    {
+        let _ = put_judged(index, note);
+        return;
+    }
+    note.reason.clear();
+    let _ = match notice {
+        Notice::Item(entry) => put_verdict(entry.verdict, &mut note.line),
+        Notice::Stopped(fault) => put_stop(fault, place, &mut note.line),
+        Notice::Counts(_) | Notice::NotBegun(_) => Ok(()),
+    };
+}
+
+/// Puts down which signature was refused, if there may be several, before the reason.
+fn put_judged(index: usize, note: &mut Note) -> fmt::Result {
+    if note.is_of_signer {
+        let number = index.saturating_add(1);
+        write!(note.line, "signature {number}: ")?;
+    }
+    if note.reason.is_empty() {
+        return note.line.write_str("the judge says no");
+    }
+    Ok(())
+}
+
+/// Writes what a verdict means.
+fn put_verdict<P: fmt::Write>(verdict: Verdict, page: &mut P) -> fmt::Result {
+    match verdict {
+        Verdict::Passed => Ok(()),
+        Verdict::Refused(refusal) => put_refusal(refusal, page),
     }
 }
 
-/// Writes what a refusal means. The note is that of the judge.
-pub(crate) fn say_refusal<P: fmt::Write>(
-    refusal: Refusal,
-    note: &Note,
-    page: &mut P,
-) -> fmt::Result {
+/// Writes what a refusal means, if the judge has no part in it.
+fn put_refusal<P: fmt::Write>(refusal: Refusal, page: &mut P) -> fmt::Result {
     match refusal {
-        Refusal::NotTagged => page.write_str("  no tag; a COSE_Mac0 is in tag 17\n"),
+        Refusal::NotTagged => page.write_str("no tag; a COSE_Mac0 is in tag 17"),
         Refusal::OtherTag(61) => page.write_str(WEB_TOKEN),
-        Refusal::OtherTag(number) => writeln!(page, "  tag {number}"),
-        Refusal::Encrypted => page.write_str("  a COSE_Encrypt or COSE_Encrypt0\n"),
-        Refusal::Shape(error) => writeln!(page, "  {error}"),
-        Refusal::Detached => page.write_str("  the message doesn't carry its payload\n"),
-        Refusal::NoSignature => page.write_str("  a COSE_Sign without a signature\n"),
-        Refusal::Judged(index) => say_judged(index, note, page),
+        Refusal::OtherTag(number) => write!(page, "tag {number}"),
+        Refusal::Encrypted => page.write_str("a COSE_Encrypt or COSE_Encrypt0"),
+        Refusal::Shape(error) => write!(page, "{error}"),
+        Refusal::Detached => page.write_str("the message doesn't carry its payload"),
+        Refusal::NoSignature => page.write_str("a COSE_Sign without a signature"),
         Refusal::NotShortest => page.write_str(NOT_CANONICAL),
+        Refusal::Judged(_) => Ok(()),
     }
 }
 
 const WEB_TOKEN: &str =
-    "  tag 61 (a CBOR Web Token); cose-gate takes the message in it, without this tag\n";
+    "tag 61 (a CBOR Web Token); cose-gate takes the message in it, without this tag";
 
-const NOT_CANONICAL: &str = "  not in canonical encoding; cose-show --strict shows where\n";
+const NOT_CANONICAL: &str = "not in canonical encoding; cose-show --strict shows where";
 
-/// Which signature was refused, if there may be several, and why.
-fn say_judged<P: fmt::Write>(index: usize, note: &Note, page: &mut P) -> fmt::Result {
-    page.write_str("  ")?;
-    if note.is_of_signer {
-        let number = index.saturating_add(1);
-        write!(page, "signature {number}: ")?;
-    }
-    if note.reason.is_empty() {
-        return page.write_str("the judge says no\n");
-    }
-    page.write_str(note.reason.as_str())?;
-    page.write_str("\n")
-}
-
-/// Writes what stopped a run whose next item has this number and begins at this offset.
-pub(crate) fn say_stop<P: fmt::Write>(
+/// Writes what stopped a run whose next item is at this place.
+fn put_stop<P: fmt::Write>(
     fault: &GateFault<InputFault>,
-    number: usize,
-    offset: usize,
+    place: Place,
     page: &mut P,
 ) -> fmt::Result {
+    let Place { number, offset } = place;
     match fault {
         GateFault::Decode(de::Error::Io(InputFault::Failed)) => {
-            writeln!(page, "  item {number} at {offset}: the input can't be read")
+            write!(page, "item {number} at {offset}: the input can't be read")
         }
         GateFault::Decode(error) => {
-            write!(page, "  item {number} at {offset}: ")?;
-            say_damage(error, page)?;
-            page.write_str(REMEDY)
+            write!(page, "item {number} at {offset}: ")?;
+            put_damage(error, page)
         }
-        GateFault::Write => page.write_str("  the output can't be written\n"),
-        GateFault::Memory => writeln!(page, "  item {number} at {offset}: out of memory"),
+        GateFault::Write => page.write_str("the output can't be written"),
+        GateFault::Memory => write!(page, "item {number} at {offset}: out of memory"),
     }
 }
 
-/// What keeps one damaged item from stopping the others.
-const REMEDY: &str =
-    "  nothing after it is judged; cose-show --cut 1 DIR writes each item to its own file\n";
-
-/// The fault in an item.
-fn say_damage<P: fmt::Write>(error: &de::Error<InputFault>, page: &mut P) -> fmt::Result {
+/// Writes what is wrong with an item.
+fn put_damage<P: fmt::Write>(error: &de::Error<InputFault>, page: &mut P) -> fmt::Result {
     match error {
-        de::Error::Io(_) => page.write_str("the input ends inside the item\n"),
-        de::Error::Syntax(at) => writeln!(page, "no CBOR item at {at}"),
-        de::Error::Semantic(_, kind) => say_kind(*kind, page),
+        de::Error::Io(_) => page.write_str("the input ends inside the item"),
+        de::Error::Syntax(at) => write!(page, "no CBOR item at {at}"),
+        de::Error::Semantic(_, kind) => page.write_str(kind_text(*kind)),
         de::Error::RecursionLimitExceeded => {
-            page.write_str("the item nests deeper than 256 levels\n")
+            page.write_str("the item nests deeper than 256 levels")
         }
-        de::Error::Memory => page.write_str("out of memory\n"),
-        de::Error::TooLong => page.write_str("the input is too long\n"),
+        de::Error::Memory => page.write_str("out of memory"),
+        de::Error::TooLong => page.write_str("the input is too long"),
     }
 }
 
-fn say_kind<P: fmt::Write>(kind: SemanticKind, page: &mut P) -> fmt::Result {
+fn kind_text(kind: SemanticKind) -> &'static str {
     match kind {
-        SemanticKind::Simple => page.write_str("a simple value that isn't assigned\n"),
-        SemanticKind::Break => page.write_str("a break in place of an item\n"),
-        SemanticKind::BigNegative => page.write_str("a negative bignum below -2^127\n"),
-        _ => page.write_str("an item that has no value here\n"),
+        SemanticKind::Simple => "a simple value that isn't assigned",
+        SemanticKind::Break => "a break in place of an item",
+        SemanticKind::BigNegative => "a negative bignum below -2^127",
+        _ => "an item that has no value here",
     }
+}
+
+/// What keeps one damaged item from stopping the others, if this tells of one.
+fn remedy(notice: &Notice) -> &'static str {
+    match notice {
+        Notice::Stopped(GateFault::Decode(de::Error::Io(InputFault::Failed))) => "",
+        Notice::Stopped(GateFault::Decode(_)) => {
+            "nothing after it is judged; cose-show --cut 1 DIR writes each item to its own file"
+        }
+        _ => "",
+    }
+}
+
+/// Writes a line that begins with two blanks and holds these two texts, if they aren't empty. Of
+/// one that isn't of one line nothing is written.
+pub(crate) fn write_more<W: Write>(first: &str, then: &str, out: &mut W)
+    ensures { Adds W.Write true out.old out.new }
+{
+    if first.is_empty() && then.is_empty() {
+        return;
+    }
+    write_indented(one_line(first), one_line(then), out);
+}
+
+/// The text, if it is of one line.
+fn one_line(text: &str) -> &str
+    ensures { spec.is_line result.now ≡ true }
+{
+    if is_line(text) { text } else { "" }
+}
+
+fn is_line(text: &str) -> bool
+    ensures { result ≡ spec.is_line text.now }
+{
+    text.as_bytes().iter().all(|byte| *byte != b'\n')
+}
+
+/// Writes a line that begins with two blanks.
+pub(crate) fn write_indented<W: Write>(first: &str, then: &str, out: &mut W)
+    ensures { Wrote W.Write out.old out.new (indented (first.now ++ then.now)) }
+{
+    let _ = out.write_all(b"  ");
+    let _ = out.write_all(first.as_bytes());
+    let _ = out.write_all(then.as_bytes());
+    let _ = out.write_all(b"\n");
+}
+
+/// Hands on what a writer holds back. A fault of it is ignored.
+pub(crate) fn flush<W: Write>(out: &mut W)
+    ensures { Wrote W.Write out.old out.new [] }
+{
+    let _ = out.flush();
 }

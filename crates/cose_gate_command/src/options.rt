@@ -77,7 +77,7 @@ pub fn pass_arguments(all: &[String]) -> Option<PassArguments<'_>>
     ensures { option_map pass_view result ≡ spec.pass_arguments (map string_bytes all.now) }
 {
     let asked = read_arguments(all)?;
-    if asked.verbose {
+    if asked.verbose || asked.quiet {
         return None;
     }
     Some(PassArguments {

@@ -1,13 +1,15 @@
 //! The lines of the program, and what is said more.
-ghost use Rattle.std.specs.Prelude.{◌≡◌, ◌++◌, ◌∷◌, [], true};
-ghost use Rattle.cose_gate_command.specs.QuietLines.{Quiet, Quiet-prop, QuietLines};
+ghost use Rattle.std.specs.Prelude.{◌≡◌, ◌++◌, ◌∷◌, []};
+ghost use Rattle.cose_gate_program.specs.Writing.{Wrote};
+ghost use Rattle.cose_gate_command.specs.Said as spec;
+ghost use Rattle.cose_gate_command.specs.Said.{Adds, SaidLines, SaysSince, SaysSince-prop};
 
 use crate::explained::Note;
-use crate::more::{Text, say_refusal, say_stop};
+use crate::more::{Place, flush, say_more};
 use ciborium_ll::Write;
 use ciborium_ll::log::Log;
-use cose_gate_core::{Entry, GateFault, Verdict};
-use cose_gate_program::{InputFault, Notice, Teller, hand_on, write_logged};
+use cose_gate_core::Verdict;
+use cose_gate_program::{Notice, Teller, write_notice};
 use std::cell::{Cell, RefCell};
 
 /// What is said more comes from these.
@@ -19,27 +21,35 @@ pub(crate) struct Sources<'n> {
     pub(crate) taken: &'n Cell<usize>,
 }
 
+/// How a run is told.
+#[derive(Debug, Clone, Copy, PartialEq, Eq)]
+pub(crate) struct Manner {
+    /// More is said of refusals and stops.
+    pub(crate) verbose: bool,
+    /// Nothing is said of an item that passed.
+    pub(crate) quiet: bool,
+}
+
 /// The lines of the program, and if it is verbose after each what is said more.
 #[derive(Drop)]
 pub(crate) struct Said<'o, 'n, W: Write> {
     out: &'o mut W,
-    verbose: bool,
+    manner: Manner,
     /// It is lent, since what it holds may be none: else no clause could say what becomes of `out`.
     sources: &'o Sources<'n>,
-    /// How many items were done, and where the next one begins.
-    done: usize,
-    offset: usize,
+    /// The next item.
+    next: Place,
     /// What was told, and what the writer was at first. It is in contracts alone.
     told: &'o mut Log<Notice>,
     was: &'o Log<W>,
-    ghost is: { Quiet W.Write verbose was.now out.now told.now } by { Quiet-prop W.Write _ _ _ _ },
+    ghost is: { SaysSince W.Write manner.verbose manner.quiet was.now.items out.now told.now.items } by { SaysSince-prop W.Write _ _ _ _ _ },
 }
 
 impl<'o, 'n, W: Write> Said<'o, 'n, W> {
     /// Of this writer, which is the one in the first log; the second is for what is told.
     pub(crate) fn new(
         out: &'o mut W,
-        verbose: bool,
+        manner: Manner,
         sources: &'o Sources<'n>,
         was: &'o Log<W>,
         told: &'o mut Log<Notice>,
@@ -47,76 +57,83 @@ impl<'o, 'n, W: Write> Said<'o, 'n, W> {
         requires { was.now.items ≡ out.old ∷ [] }
         ensures was { result.was.now.items ≡ out.old ∷ [] }
         ensures told { result.told.now.items ≡ [] }
-        ensures verbose { result.verbose ≡ verbose }
+        ensures manner { result.manner ≡ manner }
         ensures kept { result.out.ghost_name ≡ out.entry.ghost_name }
     {
         *told = Log::new();
         Said {
             out,
-            verbose,
+            manner,
             sources,
-            done: 0,
-            offset: 0,
+            next: Place {
+                number: 1,
+                offset: 0,
+            },
             told,
             was,
         }
     }
+}
 
-    /// Says more of an item.
-    fn explain_item(&mut self, entry: &Entry)
-        requires { self.old.verbose ≡ true }
-        ensures verbose { self.new.verbose ≡ self.old.verbose }
-        ensures was { self.new.was ≡ self.old.was }
-        ensures told { self.new.told.now ≡ self.old.told.now }
-        ensures same { self.new.told.ghost_name ≡ self.old.told.ghost_name }
-        ensures kept { self.new.out.ghost_name ≡ self.old.out.ghost_name }
-    {
-        self.done = entry.number;
-        self.offset = self.sources.taken.get();
-        if let Verdict::Refused(refusal) = entry.verdict {
-            let mut text = Text { out: self.out };
-            if let Ok(note) = self.sources.note.try_borrow() {
-                let _ = say_refusal(refusal, &note, &mut text);
-            }
-        }
-    }
-
-    /// Says more of a stop.
-    fn explain_stop(&mut self, fault: &GateFault<InputFault>)
-        requires { self.old.verbose ≡ true }
-        ensures verbose { self.new.verbose ≡ self.old.verbose }
-        ensures was { self.new.was ≡ self.old.was }
-        ensures told { self.new.told.now ≡ self.old.told.now }
-        ensures same { self.new.told.ghost_name ≡ self.old.told.ghost_name }
-        ensures kept { self.new.out.ghost_name ≡ self.old.out.ghost_name }
-    {
-        let number = self.done.saturating_add(1);
-        let offset = self.offset;
-        let _ = say_stop(fault, number, offset, &mut Text { out: self.out });
-        let _ = self.out.flush();
-    }
-
-    fn explain(&mut self, notice: &Notice)
-        requires { self.old.verbose ≡ true }
-        ensures verbose { self.new.verbose ≡ self.old.verbose }
-        ensures was { self.new.was ≡ self.old.was }
-        ensures told { self.new.told.now ≡ self.old.told.now }
-        ensures same { self.new.told.ghost_name ≡ self.old.told.ghost_name }
-        ensures kept { self.new.out.ghost_name ≡ self.old.out.ghost_name }
-    {
-        match notice {
-            Notice::Item(entry) => self.explain_item(entry),
-            Notice::Stopped(fault) => self.explain_stop(fault),
-            Notice::Counts(_) | Notice::NotBegun(_) => {}
-        }
+/// The place after an item, or the same one.
+fn place_after(notice: &Notice, place: Place, taken: usize) -> Place {
+    match notice {
+        Notice::Item(entry) => Place {
+            number: entry.number.saturating_add(1),
+            offset: taken,
+        },
+        _ => place,
     }
 }
 
+/// Whether a notice has no line.
+fn is_silent(quiet: bool, notice: &Notice) -> bool
+    ensures { result ≡ spec.is_silent quiet notice.now }
+{
+    match notice {
+        Notice::Item(entry) => quiet && has_passed(entry.verdict),
+        Notice::Counts(_) | Notice::Stopped(_) | Notice::NotBegun(_) => false,
+    }
+}
+
+fn has_passed(verdict: Verdict) -> bool
+    ensures { result ≡ spec.has_passed verdict }
+{
+    matches!(verdict, Verdict::Passed)
+}
+
+/// Writes the line of a notice, if it has one.
+fn write_shown<W: Write>(quiet: bool, notice: &Notice, out: &mut W)
+    ensures { Wrote W.Write out.old out.new (spec.shown quiet notice.now) }
+{
+    if is_silent(quiet, notice) {
+        return;
+    }
+    write_notice(notice, out);
+}
+
+/// Says more of a notice, if it is verbose.
+fn explain<W: Write>(
+    verbose: bool,
+    notice: &Notice,
+    place: Place,
+    note: &RefCell<Note>,
+    out: &mut W,
+)
+    ensures { Adds W.Write verbose out.old out.new }
+{
+    if !verbose {
+        return;
+    }
+    say_more(notice, place, note, out);
+}
+
 impl<'o, 'n, W: Write> Teller for Said<'o, 'n, W> {
-    ghost State = { QuietLines W };
+    ghost State = { SaidLines W };
 
     ghost state = { λ l. record {
-      verbose = l.verbose;
+      verbose = l.manner.verbose;
+      quiet = l.manner.quiet;
       name = l.out.ghost_name;
       was = l.was.now.items;
       told = l.told.now.items;
@@ -125,13 +142,14 @@ impl<'o, 'n, W: Write> Teller for Said<'o, 'n, W> {
     ghost folded = { λ s notice. record s { told = s.told ++ notice ∷ [] } };
 
     fn tell(&mut self, notice: &Notice) {
-        write_logged(notice, self.out, self.told);
-        if self.verbose {
-            self.explain(notice);
-        }
+        let Sources { note, taken } = *self.sources;
+        write_shown(self.manner.quiet, notice, self.out);
+        *self.told = self.told.and(notice);
+        explain(self.manner.verbose, notice, self.next, note, self.out);
+        self.next = place_after(notice, self.next, taken.get());
     }
 
     fn rest(&mut self) {
-        hand_on(self.out);
+        flush(self.out);
     }
 }

@@ -1,10 +1,11 @@
 use Rattle.std.specs.Prelude.{option_copied}
-use Rattle.cose_gate_program.proofs.LentLines.{wrote_one}
-use Rattle.cose_gate_program.specs.declared.telling.Notice.TheVariants.{NotBegun}
-use Rattle.cose_gate_command.proofs.Reasons.{with_reason}
+use Rattle.cose_gate_command.proofs.Reasons.{with_more, with_reason}
 use Rattle.cose_gate_command.proofs.verbose.end_unbegun.Goals as goal
 
+pub returns-then-verbose-clause-said : goal.returns-then-verbose-clause-said
+returns-then-verbose-clause-said g c =
+    with_more g.E.Write _ _ _ _ _ c.args.file.fault.now (option_copied c.args.file.bytes) c.args.why c.if-verbose.true c.write_notice.ensures c.say_not_begun.ensures
+
 pub returns-clause-said : goal.returns-clause-said
-returns-clause-said g c quiet =
-    with_reason g.E.Write _ _ _ c.args.file.fault.now (option_copied c.args.file.bytes) c.args.why
-    (wrote_one g.E.Write _ _ (NotBegun c.args.why) c.write_notice.ensures) (c.add_reason.ensures quiet)
+returns-clause-said g c =
+    with_reason g.E.Write _ _ _ _ _ c.args.file.fault.now (option_copied c.args.file.bytes) c.args.why c.if-verbose.false c.write_notice.ensures c.write_reason.ensures

@@ -1,11 +1,9 @@
 use Rattle.std.proofs.Common.{refl, rules, ◌≡◌, ◌∷◌, ◌++◌, [], ◌∙◌}
 use Rattle.std.specs.Prelude.{option_copied}
-use Rattle.cose_gate_program.specs.Lines.{lines_of}
 use Rattle.cose_gate_program.specs.Telling.{not_begun}
-use Rattle.cose_gate_program.specs.Writing.{Wrote}
-use Rattle.cose_gate_program.specs.declared.telling.Notice.TheVariants.{NotBegun}
 use Rattle.cose_gate_program.proofs.Tellings.{began, ran_as}
-use Rattle.cose_gate_command.proofs.SaidQuiet.{said_alone, same_writer}
+use Rattle.cose_gate_command.specs.Said.{SaysSince}
+use Rattle.cose_gate_command.proofs.Said.{said_all, same_writer}
 use Rattle.cose_gate_command.proofs.Ends.{lent_on}
 use Rattle.cose_gate_command.proofs.Reasons.{plain_run}
 use Rattle.cose_gate_command.proofs.verbose.run_asked.Goals as goal
@@ -15,12 +13,12 @@ returns-in-Ok-clause-ran g c =
     let b = c.in-Ok.ensures in
     lent_on _ _ _ _ _ _ _ _ _ _ _ _ _ _ _ (search rules) (search rules) (search rules) (search rules)
     (began _ _ _ _ _ b.1 b.2 b.3 c.as_slice-aad.ensures.value c.prepared-judge.ensures
-    (plain_run g.E.Write _ (option_copied c.args.file.bytes) (ran_as c.run_told.ensures.ran (λ qs asked. asked) (λ ns last told quiet.
+    (plain_run g.E.Write c.args.asked.verbose c.args.asked.quiet _ (option_copied c.args.file.bytes) (ran_as c.run_told.ensures.ran (λ qs asked. asked) (λ ns last told.
     let all = ns ++ last ∷ [] in
     let said = c.run_told.new.teller in
     let name : said.out.ghost_name ≡ _ = same_writer _ _ all told ∙ c.new-teller.ensures.kept in
-    let wrote : Wrote g.E.Write c.args.err.now said.out.now (lines_of all)
-    = said_alone g.E.Write _ _ all _ _ _ told c.new-teller.ensures.was c.new-teller.ensures.told c.new-teller.ensures.verbose quiet said.is in
+    let says : SaysSince g.E.Write c.args.asked.verbose c.args.asked.quiet (c.args.err.now ∷ []) said.out.now all
+    = said_all g.E.Write _ _ all _ _ _ _ told c.new-teller.ensures.was c.new-teller.ensures.told (search rules) (search rules) said.is in
     search rules))))
 
 pub returns-clause-ran : goal.returns-clause-ran

@@ -1,0 +1,8 @@
+use Rattle.cose_gate_command.proofs.Said.{says_line, says_more}
+use Rattle.cose_gate_command.proofs.said.SaidTeller.tell.Goals as goal
+
+pub invariant_of-self : goal.invariant_of-self
+invariant_of-self g c =
+    let s = c.args.self.now in
+    let told = says_line g.W.Write s.manner.verbose s.manner.quiet s.was.now.items _ _ s.told.now.items c.args.notice.now s.is c.write_shown.ensures in
+    record { is = rw c.and-self.ensures (says_more g.W.Write s.manner.verbose s.manner.quiet s.was.now.items _ _ _ told c.explain.ensures) }

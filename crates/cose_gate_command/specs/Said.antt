@@ -1,0 +1,89 @@
+-- What is said of a run on standard error.
+use Rattle.std.specs.Prelude.{◌≡◌, ℕ, List, [], ◌∷◌, ◌++◌, Option, Bool, true, false, not, nat_eq, ◌&&◌, if◌then◌else◌, flat_map}
+use Rattle.std.specs.List.{list_all}
+use Rattle.ciborium_ll.specs.declared.write.Write.{Ghosts as Writes}
+use Rattle.cose_gate_core.specs.declared.report.Verdict.{Verdict}
+use Rattle.cose_gate_core.specs.declared.report.Verdict.TheVariants.{Passed, Refused}
+use Rattle.cose_gate_program.specs.Lines.{line_of}
+use Rattle.cose_gate_program.specs.Writing.{Wrote, WroteSince, WroteSince-prop}
+use Rattle.cose_gate_program.specs.declared.telling.Notice.{Notice}
+use Rattle.cose_gate_program.specs.declared.telling.Notice.TheVariants as notice
+use Rattle.cose_gate_command.specs.KeyFiles.{indented, reason_line}
+
+abbrev pub has_passed : Verdict → Bool
+has_passed Passed = true
+has_passed (Refused r) = false
+
+-- a notice without a line: with --quiet that of an item that passed
+abbrev pub is_silent : Bool → Notice → Bool
+is_silent quiet (notice.Item e) = quiet && has_passed e.verdict
+is_silent quiet (notice.Counts c) = false
+is_silent quiet (notice.Stopped f) = false
+is_silent quiet (notice.NotBegun why) = false
+
+-- the line of a notice, if it has one
+abbrev pub shown : Bool → Notice → List ℕ
+shown quiet n = if is_silent quiet n then [] else line_of n
+
+-- the same, and after that of a run that doesn't begin one that says why KEYS can't be used, if it
+-- can't be read for this fault, or holds these bytes
+abbrev pub line_with : List ℕ → Option (List ℕ) → Bool → Notice → List ℕ
+line_with fault keys quiet (notice.NotBegun why) =
+    line_of (notice.NotBegun why) ++ reason_line fault keys why
+line_with fault keys quiet (notice.Item e) = shown quiet (notice.Item e)
+line_with fault keys quiet (notice.Counts c) = shown quiet (notice.Counts c)
+line_with fault keys quiet (notice.Stopped f) = shown quiet (notice.Stopped f)
+
+-- a text without the end of a line
+abbrev pub is_line : List ℕ → Bool
+is_line text = list_all (λ c. not (nat_eq c 10)) text
+
+-- lines that begin with two blanks
+pub data AreIndented : List ℕ → Type 0 where
+  none : AreIndented []
+  one_more : {text : List ℕ} → AreIndented text → (line : List ℕ) → is_line line ≡ true
+      → AreIndented (text ++ indented line)
+
+-- nothing was written, or if it is verbose lines that begin with two blanks
+abbrev pub Adds : {W F : Type 0} → Writes W F → Bool → W → W → Type 0
+Adds w true old new = (said : List ℕ) × AreIndented said × Wrote w old new said
+Adds w false old new = Wrote w old new []
+
+-- the lines of these notices, in order, among lines that begin with two blanks
+pub data Among : Bool → List Notice → List ℕ → Type 0 where
+  nothing : {quiet : Bool} → Among quiet [] []
+  line : {quiet : Bool} {told : List Notice} {text : List ℕ} → Among quiet told text
+      → (n : Notice) → Among quiet (told ++ n ∷ []) (text ++ shown quiet n)
+  more : {quiet : Bool} {told : List Notice} {text said : List ℕ} → Among quiet told text
+      → AreIndented said → Among quiet told (text ++ said)
+
+-- what was written since a writer was as in a log: the lines of these notices, and if it is
+-- verbose these among lines that begin with two blanks
+abbrev pub SaysSince : {W F : Type 0} → Writes W F → Bool → Bool → List W → W → List Notice
+    → Type 0
+SaysSince w true quiet was now told =
+    ∥ ((text : List ℕ) × Among quiet told text × WroteSince w was now text) ∥₁
+SaysSince w false quiet was now told = WroteSince w was now (flat_map (shown quiet) told)
+
+pub SaysSince-prop : {W F : Type 0} (w : Writes W F) (verbose quiet : Bool) (was : List W)
+    (now : W) (told : List Notice) → IsProp (SaysSince w verbose quiet was now told)
+SaysSince-prop w true quiet was now told = squash₁
+SaysSince-prop w false quiet was now told =
+    WroteSince-prop w was now (flat_map (shown quiet) told)
+
+-- the same of all that a run says, with the line on KEYS if it isn't verbose
+abbrev pub Says : {W F : Type 0} → Writes W F → Bool → Bool → List ℕ → Option (List ℕ) → W → W
+    → List Notice → Type 0
+Says w true quiet fault keys old new told =
+    ∥ ((text : List ℕ) × Among quiet told text × Wrote w old new text) ∥₁
+Says w false quiet fault keys old new told =
+    Wrote w old new (flat_map (line_with fault keys quiet) told)
+
+-- lines on a writer that is lent: how they are said, what the writer was at first, and what was
+-- told since
+pub record SaidLines (W : Type 0) : Type 0 where
+  pub verbose : Bool
+  pub quiet : Bool
+  pub name : ℕ
+  pub was : List W
+  pub told : List Notice
