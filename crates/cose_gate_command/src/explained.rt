@@ -2,7 +2,7 @@
 use cose_gate_core::{About, Judge, MessageKind};
 use cose_gate_program::CoseKeySet;
 use cose_hmac::HmacSha256;
-use cose_reasons::{KeyBook, OTHER_KIND, Page, secret_or_reason, write_wrong_tag};
+use cose_reasons::{KeyBook, OTHER_KIND, Page, Secret, secret_or_reason, write_wrong_tag};
 use std::alloc::{AllocError, Global};
 use std::cell::RefCell;
 
@@ -44,6 +44,8 @@ pub(crate) struct Reasons<'a> {
     aad_len: usize,
     /// The tag under the key of the message, of what was fed; none if the reason is known already.
     mac: Option<HmacSha256>,
+    /// Whether another key has the id of this one.
+    is_shared: bool,
     note: &'a RefCell<Note>,
 }
 
@@ -59,6 +61,7 @@ impl<'a> Reasons<'a> {
             book: KeyBook::new(alloc, keys).ok(),
             aad_len,
             mac: None,
+            is_shared: false,
             note,
         }
     }
@@ -75,7 +78,8 @@ impl<'a> Reasons<'a> {
             if page.has_failed() {
                 note.reason.clear();
             } else if let Some(secret) = secret {
-                self.mac = Some(HmacSha256::new(secret));
+                self.mac = Some(HmacSha256::new(secret.bytes));
+                self.is_shared = secret.is_shared;
             }
         }
     }
@@ -93,7 +97,7 @@ impl<'a> Reasons<'a> {
                 let note = &mut *guard;
                 let whole = mac.finalize();
                 let mut page = Page::new(&mut note.reason);
-                write_wrong_tag(&whole, tag, self.aad_len, &mut page);
+                write_wrong_tag(&whole, tag, self.is_shared, self.aad_len, &mut page);
                 if page.has_failed() {
                     note.reason.clear();
                 }
@@ -107,7 +111,7 @@ fn begun<'b>(
     book: &'b Option<KeyBook<'_>>,
     about: &About,
     page: &mut Page<'_, String>,
-) -> Option<&'b [u8]> {
+) -> Option<Secret<'b>> {
     match (about.kind, book) {
         (MessageKind::Mac0, Some(book)) => {
             secret_or_reason(book, about.protected, about.unprotected, page)

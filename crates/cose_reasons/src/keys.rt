@@ -7,11 +7,19 @@ use coset_labels::{CborSerializable, CoseError};
 use std::alloc::Global;
 use std::collections::BTreeMap;
 
-/// The keys of a set by their ids: of each id the first key that fits, or, if none fits, the first
-/// that has it.
+/// The keys of a set by their ids.
 #[derive(Drop)]
 pub struct KeyBook<'a> {
-    by_id: BTreeMap<&'a [u8], &'a CoseKey>,
+    by_id: BTreeMap<&'a [u8], Held<'a>>,
+}
+
+/// The key of an id.
+#[derive(Clone, Copy)]
+pub struct Held<'a> {
+    /// The first key with this id that fits, or, if none fits, the first that has it.
+    pub key: &'a CoseKey,
+    /// Whether another key has it too.
+    pub is_shared: bool,
 }
 
 impl<'a> KeyBook<'a> {
@@ -28,31 +36,41 @@ impl<'a> KeyBook<'a> {
     }
 
     /// The key that a message with this id is judged by, or would be if it fitted.
-    pub fn find(&self, id: &[u8]) -> Option<&CoseKey> {
-        match self.by_id.get(id) {
-            Some(key) => Some(*key),
-            None => None,
-        }
+    pub fn find(&self, id: &[u8]) -> Option<Held<'a>> {
+        self.by_id.get(id).copied()
     }
 
     /// The ids, by their bytes.
-    pub fn ids(&self) -> &BTreeMap<&'a [u8], &'a CoseKey> {
+    pub fn ids(&self) -> &BTreeMap<&'a [u8], Held<'a>> {
         &self.by_id
     }
 }
 
-fn add_key<'a>(by_id: &mut BTreeMap<&'a [u8], &'a CoseKey>, key: &'a CoseKey) -> Result<(), Stop> {
+fn add_key<'a>(by_id: &mut BTreeMap<&'a [u8], Held<'a>>, key: &'a CoseKey) -> Result<(), Stop> {
     let id = key.key_id.as_slice();
-    let stays = match by_id.get(id) {
-        Some(first) => fits(first, id) || !fits(key, id),
-        None => false,
-    };
-    if stays {
-        return Ok(());
-    }
-    match by_id.insert(id, key) {
+    let first = by_id.get(id).copied();
+    match by_id.insert(id, held_of(first, key)) {
         Ok(_) => Ok(()),
         Err(_) => Err(Stop::Memory),
+    }
+}
+
+/// What is held of an id, if this was held of it, and this key has it too.
+fn held_of<'a>(first: Option<Held<'a>>, key: &'a CoseKey) -> Held<'a> {
+    let id = key.key_id.as_slice();
+    match first {
+        None => Held {
+            key,
+            is_shared: false,
+        },
+        Some(held) if fits(held.key, id) || !fits(key, id) => Held {
+            key: held.key,
+            is_shared: true,
+        },
+        Some(_) => Held {
+            key,
+            is_shared: true,
+        },
     }
 }
 

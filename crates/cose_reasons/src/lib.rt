@@ -5,7 +5,7 @@ mod keys;
 mod stop;
 mod why;
 
-pub use crate::keys::{KeyBook, read_keys};
+pub use crate::keys::{Held, KeyBook, read_keys};
 pub use crate::stop::Stop;
-pub use crate::why::{OTHER_KIND, Question, reason, secret_or_reason, write_wrong_tag};
+pub use crate::why::{OTHER_KIND, Question, Secret, reason, secret_or_reason, write_wrong_tag};
 pub use cbor_diag::{Page, write_char};

@@ -63,11 +63,26 @@ fn write_reason<P: fmt::Write>(
 ) -> bool {
     match secret_or_reason(book, question.protected, question.unprotected, page) {
         Some(secret) => {
-            let whole = hmac_sha256(secret, question.covered);
-            write_wrong_tag(&whole, question.tag, question.aad_len, page)
+            let whole = hmac_sha256(secret.bytes, question.covered);
+            write_wrong_tag(
+                &whole,
+                question.tag,
+                secret.is_shared,
+                question.aad_len,
+                page,
+            )
         }
         None => true,
     }
+}
+
+/// The secret of a key.
+#[derive(Clone, Copy)]
+pub struct Secret<'a> {
+    /// Its bytes.
+    pub bytes: &'a [u8],
+    /// Whether another key has the id of this one.
+    pub is_shared: bool,
 }
 
 /// The secret under which a judge by these keys verifies the tag of a COSE_Mac0 with these headers;
@@ -77,7 +92,7 @@ pub fn secret_or_reason<'b, P: fmt::Write>(
     protected: &ProtectedHeader,
     unprotected: &Header,
     page: &mut Page<'_, P>,
-) -> Option<&'b [u8]> {
+) -> Option<Secret<'b>> {
     if !alg_is_hmac(protected) {
         write_other_alg(&protected.header.alg, &unprotected.alg, page);
         return None;
@@ -91,15 +106,17 @@ pub fn secret_or_reason<'b, P: fmt::Write>(
         return None;
     }
     let id = message_id(protected, unprotected);
-    let Some(key) = book.find(id) else {
+    let Some(held) = book.find(id) else {
         write_no_key(book, id, page);
         return None;
     };
-    if fits(key, id) {
-        return secret_of(key);
+    if fits(held.key, id) {
+        let bytes = secret_of(held.key)?;
+        let is_shared = held.is_shared;
+        return Some(Secret { bytes, is_shared });
     }
     write_key_id(id, page);
-    write_bar(key, page);
+    write_bar(held.key, page);
     None
 }
 
@@ -279,6 +296,7 @@ fn write_bar_of_secret<P: fmt::Write>(key: &CoseKey, page: &mut Page<'_, P>) {
 pub fn write_wrong_tag<P: fmt::Write>(
     whole: &[u8; TAG],
     tag: &[u8],
+    is_shared: bool,
     aad_len: usize,
     page: &mut Page<'_, P>,
 ) -> bool {
@@ -294,5 +312,8 @@ pub fn write_wrong_tag<P: fmt::Write>(
     page.write_str("the tag isn't that of the first matching key, with ");
     write_len(aad_len, page);
     page.write_str(" of external data");
+    if is_shared {
+        page.write_str("; another key of KEYS has its id, and isn't tried");
+    }
     true
 }
