@@ -1,4 +1,5 @@
 //! What is shown of damaged input.
+use crate::show::show_looks;
 use crate::source::Source;
 use cbor_diag::{Fault, Page};
 use cose_notation::{Look, begin_line, may_hold_secrets, write_shown};
@@ -31,7 +32,7 @@ pub fn show_damage<R: io::Read + Drop, P: fmt::Write>(
     if !look.secrets && may_hold_secrets(alloc, held, fault.at, AROUND)? {
         page.write_str("  not shown, as it may hold secrets of keys (--secrets shows it)\n");
         writeln!(page, "  fault at {place}: {why}");
-        page.end()?;
+        show_looks(source, page)?;
         return Err(Stop::of_fault(fault, offset));
     }
     begin_line(1, page);
@@ -39,7 +40,7 @@ pub fn show_damage<R: io::Read + Drop, P: fmt::Write>(
     page.write_str("...");
     writeln!(page, "\n  fault at {place}: {why}");
     show_around(held, offset, fault.at, page);
-    page.end()?;
+    show_looks(source, page)?;
     Err(Stop::of_fault(fault, offset))
 }
 

@@ -5,6 +5,7 @@
 mod asking;
 mod cut;
 mod damage;
+mod looks;
 mod object;
 mod printer;
 mod shape;

@@ -102,7 +102,11 @@ fn show<R: io::Read + Drop, P: fmt::Write>(
                 }
                 source.leave(len);
             }
-            Found::End => return Ok(stopped),
+            Found::End if request.json => return Ok(stopped),
+            Found::End => {
+                show_looks(source, page)?;
+                return Ok(stopped);
+            }
             Found::Damaged(fault) if request.json => {
                 return write_damage(alloc, request.look, number, fault, source, page);
             }
@@ -112,6 +116,18 @@ fn show<R: io::Read + Drop, P: fmt::Write>(
         }
     }
     Ok(stopped)
+}
+
+/// Shows what an input looks like that isn't binary.
+pub fn show_looks<R: io::Read + Drop, P: fmt::Write>(
+    source: &Source<R>,
+    page: &mut Page<'_, P>,
+) -> Result<(), Stop> {
+    if let Some(name) = source.looks() {
+        writeln!(page, "the input looks like {name}, and has to be binary");
+    }
+    page.end()?;
+    Ok(())
 }
 
 /// Shows one item, and says whether the gate stops at it.

@@ -1,4 +1,5 @@
 //! The input, of which one item is held.
+use crate::looks::Looks;
 use cbor_diag::{Fault, Walk, Why};
 use cose_reasons::Stop;
 use std::alloc::Global;
@@ -27,6 +28,7 @@ pub struct Source<R> {
     /// Where it begins in the input.
     offset: usize,
     ended: bool,
+    looks: Looks,
 }
 
 impl<R: io::Read + Drop> Source<R> {
@@ -39,7 +41,13 @@ impl<R: io::Read + Drop> Source<R> {
             start: 0,
             offset: 0,
             ended: false,
+            looks: Looks::new(),
         }
+    }
+
+    /// What the input looks like so far, if it looks like text.
+    pub fn looks(&self) -> Option<&'static str> {
+        self.looks.name()
     }
 
     /// Where the item at hand begins in the input.
@@ -102,10 +110,13 @@ impl<R: io::Read + Drop> Source<R> {
     fn read_on(&mut self) -> Result<(), Stop> {
         self.forget();
         let count = match self.reader.fill_buf() {
-            Ok(block) => match self.held.extend_from_slice(block) {
-                Ok(()) => block.len(),
-                Err(_) => return Err(Stop::Memory),
-            },
+            Ok(block) => {
+                self.looks.take(block);
+                match self.held.extend_from_slice(block) {
+                    Ok(()) => block.len(),
+                    Err(_) => return Err(Stop::Memory),
+                }
+            }
             Err(_) => return Err(Stop::Input),
         };
         self.reader.consume(count);

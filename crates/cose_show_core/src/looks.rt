@@ -1,0 +1,67 @@
+//! Whether an input looks like text.
+
+/// How a PEM file begins.
+const PEM: &[u8] = b"-----BEGIN";
+
+/// An input of fewer bytes doesn't look like text in hex or base64.
+const LEAST: usize = 16;
+
+/// What the bytes of an input have been so far.
+#[derive(Debug, Clone, Copy, PartialEq, Eq)]
+pub struct Looks {
+    len: usize,
+    is_pem: bool,
+    is_hex: bool,
+    is_base64: bool,
+}
+
+impl Looks {
+    /// No byte yet.
+    pub fn new() -> Looks {
+        Looks {
+            len: 0,
+            is_pem: true,
+            is_hex: true,
+            is_base64: true,
+        }
+    }
+
+    /// Takes more bytes.
+    pub fn take(&mut self, bytes: &[u8]) {
+        for byte in bytes {
+            self.take_byte(*byte);
+        }
+    }
+
+    fn take_byte(&mut self, byte: u8) {
+        let is_blank = byte.is_ascii_whitespace();
+        if let Some(due) = PEM.get(self.len) {
+            self.is_pem = self.is_pem && byte == *due;
+        }
+        self.is_hex = self.is_hex && (is_blank || byte.is_ascii_hexdigit());
+        self.is_base64 = self.is_base64 && (is_blank || is_of_base64(byte));
+        self.len = self.len.saturating_add(1);
+    }
+
+    /// What it looks like, if it looks like text.
+    pub fn name(self) -> Option<&'static str> {
+        if self.len >= PEM.len() && self.is_pem {
+            return Some("a PEM file");
+        }
+        if self.len < LEAST {
+            return None;
+        }
+        if self.is_hex {
+            return Some("text in hex");
+        }
+        if self.is_base64 {
+            return Some("text in base64");
+        }
+        None
+    }
+}
+
+/// Whether a byte is of base64, of either alphabet (RFC 4648, sections 4 and 5).
+fn is_of_base64(byte: u8) -> bool {
+    byte.is_ascii_alphanumeric() || matches!(byte, b'+' | b'/' | b'-' | b'_' | b'=')
+}
