@@ -1,6 +1,7 @@
 -- What is said of a run on standard error.
 use Rattle.std.specs.Prelude.{◌≡◌, ℕ, List, [], ◌∷◌, ◌++◌, Option, Bool, true, false, not, nat_eq, ◌&&◌, if◌then◌else◌, flat_map}
 use Rattle.std.specs.List.{list_all}
+use Rattle.ciborium_ll.specs.declared.log.Log.{Log}
 use Rattle.ciborium_ll.specs.declared.write.Write.{Ghosts as Writes}
 use Rattle.cose_gate_core.specs.declared.report.Verdict.{Verdict}
 use Rattle.cose_gate_core.specs.declared.report.Verdict.TheVariants.{Passed, Refused}
@@ -9,6 +10,7 @@ use Rattle.cose_gate_program.specs.Writing.{Wrote, WroteSince, WroteSince-prop}
 use Rattle.cose_gate_program.specs.declared.telling.Notice.{Notice}
 use Rattle.cose_gate_program.specs.declared.telling.Notice.TheVariants as notice
 use Rattle.cose_gate_command.specs.KeyFiles.{indented, reason_line}
+use Rattle.cose_gate_command.specs.declared.said.Manner.{Manner}
 
 abbrev pub has_passed : Verdict → Bool
 has_passed Passed = true
@@ -65,11 +67,21 @@ SaysSince w true quiet was now told =
     ∥ ((text : List ℕ) × Among quiet told text × WroteSince w was now text) ∥₁
 SaysSince w false quiet was now told = WroteSince w was now (flat_map (shown quiet) told)
 
-pub SaysSince-prop : {W F : Type 0} (w : Writes W F) (verbose quiet : Bool) (was : List W)
-    (now : W) (told : List Notice) → IsProp (SaysSince w verbose quiet was now told)
+SaysSince-prop : {W F : Type 0} (w : Writes W F) (verbose quiet : Bool) (was : List W) (now : W)
+    (told : List Notice) → IsProp (SaysSince w verbose quiet was now told)
 SaysSince-prop w true quiet was now told = squash₁
 SaysSince-prop w false quiet was now told =
     WroteSince-prop w was now (flat_map (shown quiet) told)
+
+-- the same of two logs
+abbrev pub Spoken : {W F : Type 0} → Writes W F → Manner → Log W → W → Log Notice → Type 0
+Spoken w manner was now told =
+    SaysSince w manner.verbose manner.quiet was.items now told.items
+
+pub Spoken-prop : {W F : Type 0} (w : Writes W F) (manner : Manner) (was : Log W) (now : W)
+    (told : Log Notice) → IsProp (Spoken w manner was now told)
+Spoken-prop w manner was now told =
+    SaysSince-prop w manner.verbose manner.quiet was.items now told.items
 
 -- the same of all that a run says, with the line on KEYS if it isn't verbose
 abbrev pub Says : {W F : Type 0} → Writes W F → Bool → Bool → List ℕ → Option (List ℕ) → W → W

@@ -2,7 +2,7 @@
 ghost use Rattle.std.specs.Prelude.{◌≡◌, ◌++◌, ◌∷◌, []};
 ghost use Rattle.cose_gate_program.specs.Writing.{Wrote};
 ghost use Rattle.cose_gate_command.specs.Said as spec;
-ghost use Rattle.cose_gate_command.specs.Said.{Adds, SaidLines, SaysSince, SaysSince-prop};
+ghost use Rattle.cose_gate_command.specs.Said.{Adds, SaidLines, Spoken, Spoken-prop};
 
 use crate::explained::Note;
 use crate::more::{Place, flush, say_more};
@@ -42,7 +42,7 @@ pub(crate) struct Said<'o, 'n, W: Write> {
     /// What was told, and what the writer was at first. It is in contracts alone.
     told: &'o mut Log<Notice>,
     was: &'o Log<W>,
-    ghost is: { SaysSince W.Write manner.verbose manner.quiet was.now.items out.now told.now.items } by { SaysSince-prop W.Write _ _ _ _ _ },
+    ghost is: { Spoken W.Write manner was.now out.now told.now } by { Spoken-prop W.Write _ _ _ _ },
 }
 
 impl<'o, 'n, W: Write> Said<'o, 'n, W> {
