@@ -3,4 +3,4 @@ pub mod Ends
 pub mod Handing
 pub mod NotRuns
 pub mod Reasons
-pub mod Said
+pub mod SaidLines

@@ -33,10 +33,10 @@ plain_items fault keys quiet [] last same = ap (λ (z : List ℕ). z ++ []) same
 plain_items fault keys quiet (e ∷ es) last same = ap (λ (z : List ℕ). shown quiet (Item e) ++ z) (plain_items fault keys quiet es last same)
 
 -- of a run nothing is said of KEYS
-pub plain_run : {limits : Bounds} {allows : Question → Bool} {aad : List ℕ} {old new : Devices} {status : ℕ} {A : List Question → Type 0} {W F : Type 0} {err err' : W}
-    (w : Writes W F) (verbose quiet : Bool) (fault : List ℕ) (keys : Option (List ℕ)) → RanTold limits allows aad old new status A (λ ns. SaysSince w verbose quiet (err ∷ []) err' ns)
+pub plain_run : {limits : Bounds} {allows : Question → Bool} {aad : List ℕ} {old new : Devices} {status : ℕ} {A : List Question → Type 0} {W F : Type 0}
+    (w : Writes W F) (err err' : W) (verbose quiet : Bool) (fault : List ℕ) (keys : Option (List ℕ)) → RanTold limits allows aad old new status A (λ ns. SaysSince w verbose quiet (err ∷ []) err' ns)
     → RanTold limits allows aad old new status A (Says w verbose quiet fault keys err err')
-plain_run w true quiet fault keys r = record {
+plain_run w err err' true quiet fault keys r = record {
   run = r.run;
   flushed = r.flushed;
   shows = r.shows;
@@ -44,7 +44,7 @@ plain_run w true quiet fault keys r = record {
   told = r.told;
   status_is = r.status_is;
 }
-plain_run {err = err} {err' = err'} w false quiet fault keys r = record {
+plain_run w err err' false quiet fault keys r = record {
   run = r.run;
   flushed = r.flushed;
   shows = r.shows;

@@ -42,7 +42,7 @@ pub(crate) struct Said<'o, 'n, W: Write> {
     /// What was told, and what the writer was at first. It is in contracts alone.
     told: &'o mut Log<Notice>,
     was: &'o Log<W>,
-    ghost is: { Spoken W.Write manner was.now out.now told.now } by { Spoken-prop W.Write _ _ _ _ },
+    ghost is: { Spoken W.Write manner was.now out.now told.now } by { Prim.hlevel Spoken-prop },
 }
 
 impl<'o, 'n, W: Write> Said<'o, 'n, W> {

@@ -29,7 +29,7 @@ Wrote-prop w old new text =
     ×_prop (Coded-set (coded_list coded_ℕ) (w.handle new) (w.handle old))
     (×_prop le_prop (→_prop (Appends-prop (w.written old) (w.written new) text)))
 
-WroteSince-prop : {W F : Type 0} (w : Writes W F) (begun : List W) (new : W) (text : List ℕ)
+pub WroteSince-prop : {W F : Type 0} (w : Writes W F) (begun : List W) (new : W) (text : List ℕ)
     → IsProp (WroteSince w begun new text)
 WroteSince-prop w [] new text = Unit-prop
 WroteSince-prop w (old ∷ more) new text = Wrote-prop w old new text

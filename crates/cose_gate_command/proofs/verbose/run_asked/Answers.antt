@@ -3,7 +3,7 @@ use Rattle.std.specs.Prelude.{option_copied}
 use Rattle.cose_gate_program.specs.Telling.{not_begun}
 use Rattle.cose_gate_program.proofs.Tellings.{began, ran_as}
 use Rattle.cose_gate_command.specs.Said.{SaysSince}
-use Rattle.cose_gate_command.proofs.Said.{said_all, same_writer}
+use Rattle.cose_gate_command.proofs.SaidLines.{said_all, same_writer}
 use Rattle.cose_gate_command.proofs.Ends.{lent_on}
 use Rattle.cose_gate_command.proofs.Reasons.{plain_run}
 use Rattle.cose_gate_command.proofs.verbose.run_asked.Goals as goal
@@ -13,7 +13,7 @@ returns-in-Ok-clause-ran g c =
     let b = c.in-Ok.ensures in
     lent_on _ _ _ _ _ _ _ _ _ _ _ _ _ _ _ (search rules) (search rules) (search rules) (search rules)
     (began _ _ _ _ _ b.1 b.2 b.3 c.as_slice-aad.ensures.value c.prepared-judge.ensures
-    (plain_run g.E.Write c.args.asked.verbose c.args.asked.quiet _ (option_copied c.args.file.bytes) (ran_as c.run_told.ensures.ran (λ qs asked. asked) (λ ns last told.
+    (plain_run g.E.Write _ _ c.args.asked.verbose c.args.asked.quiet _ (option_copied c.args.file.bytes) (ran_as c.run_told.ensures.ran (λ qs asked. asked) (λ ns last told.
     let all = ns ++ last ∷ [] in
     let said = c.run_told.new.teller in
     let name : said.out.ghost_name ≡ _ = same_writer _ _ all told ∙ c.new-teller.ensures.kept in

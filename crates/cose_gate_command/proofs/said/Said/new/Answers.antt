@@ -1,4 +1,4 @@
-use Rattle.cose_gate_command.proofs.Said.{says_nothing}
+use Rattle.cose_gate_command.proofs.SaidLines.{says_nothing}
 use Rattle.cose_gate_command.proofs.said.Said.new.Goals as goal
 
 pub invariant_of-result : goal.invariant_of-result

@@ -1,4 +1,4 @@
-use Rattle.cose_gate_command.proofs.Said.{says_flushed}
+use Rattle.cose_gate_command.proofs.SaidLines.{says_flushed}
 use Rattle.cose_gate_command.proofs.said.SaidTeller.rest.Goals as goal
 
 pub invariant_of-self : goal.invariant_of-self
