@@ -3,6 +3,7 @@ conformance_gate, and over 1,000 mutated sequences; the length of buffer that ea
 through passes. Status 1 if one differs. c-compare.py write TOP FOLDER: writes the 1,000 mutated sequences into files of the folder."""
 
 import random
+import re
 import subprocess
 import sys
 import tempfile
@@ -70,11 +71,12 @@ def by_library(keys, aad, input):
 
 
 def by_program(keys, aad, input):
+    """Status, output and lines, but those that begin with two blanks: the library doesn't say why KEYS can't be used."""
     with tempfile.NamedTemporaryFile() as file:
         file.write(keys)
         file.flush()
         ran = subprocess.run([program, file.name, aad.hex()], input=input, capture_output=True)
-    return (ran.returncode, ran.stdout, ran.stderr.decode())
+    return (ran.returncode, ran.stdout, re.sub(r"(?m)^  .*\n", "", ran.stderr.decode()))
 
 
 def compare(keys, aad, input):
