@@ -1,7 +1,7 @@
-//! `cose-gate [--strict] [--verbose] [--quiet] KEYS [AADHEX]`: reads a CBOR sequence from standard input, and
-//! writes the messages whose tags are good under the keys of the file KEYS to standard output.
-//! AADHEX is the external data in hex. With `--strict` only messages in canonical encoding pass;
-//! with `--verbose` standard error says more, with `--quiet` nothing of what passed.
+//! `cose-gate [--strict] [--verbose] [--quiet] KEYS [AADHEX]`: reads a CBOR sequence from standard
+//! input, and writes the messages whose tags are good under the keys of the file KEYS to standard
+//! output. AADHEX is the external data in hex. With `--strict` only messages in canonical encoding
+//! pass; with `--verbose` standard error says more, with `--quiet` nothing of what passed.
 #![tactic(auto)]
 
 ghost use Rattle.std.specs.Prelude.{map, option_copied, string_bytes};
