@@ -103,6 +103,7 @@ fn two(to: &mut Out, call: &str, first: &str, second: &str) {
         "same-order" => keys::are_same_orders(to, first, second),
         "same-ml-dsa-variant" => keys::are_same_variants(to, first, second),
         "as-written" => exact::is_as_written(to, first, second),
+        "timestamp-against" => parts::against(to, first, second),
         _ => of_two_items(to, call, first, second),
     }
 }

@@ -1,9 +1,10 @@
 //! Parts of claims and of contexts of key derivation.
 use crate::items::read;
-use crate::out::Out;
+use crate::out::{NoAnswer, Out};
 use coset::cbor::{Float, Value};
 use coset::cwt::{ClaimsSet, Timestamp};
 use coset::{AsCborValue, Nonce, PartyInfo, SuppPubInfo};
+use std::cmp::Ordering;
 
 /// When a token expires.
 pub fn expiration(to: &mut Out, claims: &str) {
@@ -71,6 +72,25 @@ fn of_value(to: &mut Out, value: &Value) {
         Value::Integer(number) => to.show(&i128::from(*number)),
         Value::Float(float) => of_float(to, *float),
         _ => to.text("no time"),
+    }
+}
+
+/// How a time stands to a number of seconds.
+pub fn against(to: &mut Out, item: &str, seconds: &str) {
+    let Ok(seconds) = seconds.parse::<i64>() else {
+        to.refuse(NoAnswer::NoArgument);
+        return;
+    };
+    if let Some(value) = read::<Value>(to, item) {
+        let time = Timestamp::from_cbor_value(to.alloc(), value);
+        if let Some(time) = to.value(time) {
+            to.text(match time.partial_cmp_seconds(seconds) {
+                Some(Ordering::Less) => "less",
+                Some(Ordering::Equal) => "equal",
+                Some(Ordering::Greater) => "greater",
+                None => "none",
+            });
+        }
     }
 }
 

@@ -114,6 +114,7 @@ pub use Rattle.coset_labels.specs.declared.order.CborOrdering
 pub use Rattle.coset_claims.specs.Builder as ClaimsBuilder
 pub use Rattle.coset_claims.specs.Fields as ClaimsFields
 pub use Rattle.coset_claims.specs.Claims
+pub use Rattle.coset_claims.specs.Seconds as ClaimsSeconds
 pub use Rattle.coset_claims.specs.View as ClaimsView
 pub use Rattle.coset_claims.specs.Written as ClaimsWritten
 pub use Rattle.coset_claims.specs.Wrong as WrongClaims

@@ -4,6 +4,7 @@ pub mod Equal
 pub mod Excludes
 pub mod Fitting
 pub mod Pushed
+pub mod Scaled
 pub mod Sound
 pub mod Steps
 pub mod Unique

@@ -21,7 +21,7 @@ use std::alloc::Global;
 pub enum Timestamp {
     /// An integer.
     WholeSeconds(i64),
-    /// A float, by its width and its bits. It is never read as a number.
+    /// A float, by its width and its bits; `partial_cmp_seconds` compares the number that it is.
     FractionalSeconds(Float),
 }
 

@@ -7,3 +7,4 @@ pub mod cwt;
 mod entries;
 pub mod laws;
 mod reader;
+mod seconds;

@@ -4,11 +4,12 @@
 #![tactic(auto)]
 
 use cose_hmac::{hmac_sha256, same_tag};
-use coset::cwt::{ClaimsSet, Timestamp};
+use coset::cwt::ClaimsSet;
 use coset::{
     CborSerializable, CoseMac0, Fault, RegisteredLabelWithPrivate, TaggedCborSerializable, iana,
 };
 use std::alloc::Global;
+use std::cmp::Ordering;
 use std::env;
 use std::io::{self, Write};
 use std::process::ExitCode;
@@ -90,7 +91,8 @@ fn verified(tag: &[u8], covered: &[u8]) -> Result<(), Refused> {
     }
 }
 
-/// Whether the claims have expired, or don't say when they do.
+/// Whether the claims have expired, or don't say when they do. A NaN says no time.
 fn is_over(claims: &ClaimsSet, now: i64) -> bool {
-    !matches!(claims.expiration_time, Some(Timestamp::WholeSeconds(end)) if now < end)
+    let end = claims.expiration_time.as_ref();
+    end.and_then(|end| end.partial_cmp_seconds(now)) != Some(Ordering::Greater)
 }
