@@ -30,7 +30,7 @@ rows() {
 0|||cose-ask --help | cmp - <(../cose-ask --help) && cose-ask -h | cmp - <(../cose-ask --help)
 0|||cose-pass --help | cmp - <(../cose-pass --help) && cose-pass -h | cmp - <(../cose-pass --help)
 0|||cose-show --json --help | cmp - <(../cose-show --help) && cose-show -h | cmp - <(../cose-show --help)
-0|||for name in gate ask pass show; do cose-$name --version; done | cmp - <(printf 'cose-%s 0.8\n' gate ask pass show)
+0|||for name in gate ask pass show sift; do cose-$name --version; done | cmp - <(printf 'cose-%s 0.8\n' gate ask pass show sift)
 2|/dev/null|usage: cose-gate [--strict] [--verbose] [--quiet] KEYS [AADHEX] < INPUT > PASSED|cose-gate --strict
 2|/dev/null|usage: cose-gate [--strict] [--verbose] [--quiet] KEYS [AADHEX] < INPUT > PASSED|cose-gate keys.cbor 01 02 < one.cbor
 2|/dev/null|usage: cose-gate [--strict] [--verbose] [--quiet] KEYS [AADHEX] < INPUT > PASSED|cose-gate keys.cbor $'\xff' < one.cbor

@@ -24,7 +24,7 @@ var (
 	// ErrKeys: the bytes are no key set.
 	ErrKeys = errors.New("the bytes are no key set")
 	// ErrStopped: the input is no CBOR from some place on, or memory ran out. What passed before is in Checked.
-	ErrStopped = errors.New("the input is no CBOR, or memory was refused")
+	ErrStopped = errors.New("the input is no CBOR, or out of memory")
 )
 
 // Checked is what the gate says of an input.

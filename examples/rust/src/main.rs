@@ -59,7 +59,7 @@ impl fmt::Display for GateError {
         match self {
             GateError::Limits => write!(f, "the limits are out of range"),
             GateError::Keys { .. } => write!(f, "the bytes are no key set"),
-            GateError::Stopped { .. } => write!(f, "the input is no CBOR, or memory was refused"),
+            GateError::Stopped { .. } => write!(f, "the input is no CBOR, or out of memory"),
             GateError::NoRoom { needed } => write!(f, "a buffer of {needed} bytes is needed"),
         }
     }
