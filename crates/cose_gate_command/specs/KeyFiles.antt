@@ -1,24 +1,15 @@
 -- Why KEYS can't be used, in words.
-use Rattle.std.specs.Prelude.{ℕ, List, [], ◌∷◌, ◌++◌, Option, None, Some, Bool, false, ◌&&◌, ◌||◌, nat_eq, nat_le, if◌then◌else◌, codes, length}
+use Rattle.std.specs.Prelude.{ℕ, List, [], ◌∷◌, ◌++◌, Option, None, Some, Bool, false, ◌&&◌, nat_eq, nat_le, if◌then◌else◌, codes, length}
 use Rattle.std.specs.List.{list_all, starts_with}
-use Rattle.std.specs.Char.{is_ascii_hexdigit, is_ascii_alphanumeric, is_ascii_whitespace}
 use Rattle.coset_labels.specs.declared.error.CoseError.{CoseError}
 use Rattle.coset_labels.specs.declared.error.CoseError.TheVariants as cose
 use Rattle.cose_gate_program.specs.declared.beginning.NotBegun.{NotBegun as Unbegun}
 use Rattle.cose_gate_program.specs.declared.beginning.NotBegun.TheVariants as unbegun
+use Rattle.cose_reasons.specs.Texts.{is_of_hex, is_of_base64}
 
 -- a line that begins with two blanks
 abbrev pub indented : List ℕ → List ℕ
 indented text = codes "  " ++ (text ++ codes "\n")
-
--- a digit of hex, or white space
-abbrev pub is_of_hex : ℕ → Bool
-is_of_hex c = is_ascii_hexdigit c || is_ascii_whitespace c
-
--- a character of base64 in either alphabet (RFC 4648, sections 4 and 5), or white space
-abbrev pub is_of_base64 : ℕ → Bool
-is_of_base64 c = is_ascii_alphanumeric c || (is_ascii_whitespace c
-    || (nat_eq c 43 || (nat_eq c 47 || (nat_eq c 45 || (nat_eq c 95 || nat_eq c 61)))))
 
 -- the first byte is that of a map (RFC 8949, section 3.1: major type 5)
 abbrev pub is_map : List ℕ → Bool

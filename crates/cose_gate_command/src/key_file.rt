@@ -4,11 +4,12 @@ ghost use Rattle.std.specs.List.{list_all};
 ghost use Rattle.cose_gate_program.specs.Writing.{Wrote};
 ghost use Rattle.cose_gate_command.specs.KeyFiles as spec;
 ghost use Rattle.cose_gate_command.specs.Said.{Adds};
+ghost use Rattle.cose_reasons.specs.Texts.{is_of_base64, is_of_hex};
 
 use crate::more::{flush, write_indented, write_more};
 use ciborium_ll::Write;
 use cose_gate_program::NotBegun;
-use cose_reasons::{Page, write_char};
+use cose_reasons::{Page, is_of_base64, is_of_hex, write_char};
 use coset_labels::CoseError;
 use std::alloc::Global;
 use std::fmt;
@@ -171,31 +172,15 @@ fn map_or_other(bytes: &[u8]) -> &'static str
 }
 
 fn is_hex(bytes: &[u8]) -> bool
-    ensures { result ≡ list_all spec.is_of_hex bytes.now }
+    ensures { result ≡ list_all is_of_hex bytes.now }
 {
     bytes.iter().all(|byte| is_of_hex(*byte))
 }
 
 fn is_base64(bytes: &[u8]) -> bool
-    ensures { result ≡ list_all spec.is_of_base64 bytes.now }
+    ensures { result ≡ list_all is_of_base64 bytes.now }
 {
     bytes.iter().all(|byte| is_of_base64(*byte))
-}
-
-/// Whether a byte is of a text in hex: a digit, or white space.
-fn is_of_hex(byte: u8) -> bool
-    ensures { result ≡ spec.is_of_hex byte }
-{
-    byte.is_ascii_hexdigit() || byte.is_ascii_whitespace()
-}
-
-/// Whether a byte is of a text in base64, of either alphabet, or white space.
-fn is_of_base64(byte: u8) -> bool
-    ensures { result ≡ spec.is_of_base64 byte }
-{
-    byte.is_ascii_alphanumeric()
-        || byte.is_ascii_whitespace()
-        || matches!(byte, b'+' | b'/' | b'-' | b'_' | b'=')
 }
 
 /// Whether an item begins as a map does (RFC 8949, section 3.1: major type 5).

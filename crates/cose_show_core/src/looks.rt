@@ -1,4 +1,5 @@
 //! Whether an input looks like text.
+use cose_reasons::{is_of_base64, is_of_hex};
 
 /// How a PEM file begins.
 const PEM: &[u8] = b"-----BEGIN";
@@ -29,17 +30,19 @@ impl Looks {
     /// Takes more bytes.
     pub fn take(&mut self, bytes: &[u8]) {
         for byte in bytes {
+            if !(self.is_pem || self.is_hex || self.is_base64) {
+                return;
+            }
             self.take_byte(*byte);
         }
     }
 
     fn take_byte(&mut self, byte: u8) {
-        let is_blank = byte.is_ascii_whitespace();
         if let Some(due) = PEM.get(self.len) {
             self.is_pem = self.is_pem && byte == *due;
         }
-        self.is_hex = self.is_hex && (is_blank || byte.is_ascii_hexdigit());
-        self.is_base64 = self.is_base64 && (is_blank || is_of_base64(byte));
+        self.is_hex = self.is_hex && is_of_hex(byte);
+        self.is_base64 = self.is_base64 && is_of_base64(byte);
         self.len = self.len.saturating_add(1);
     }
 
@@ -59,9 +62,4 @@ impl Looks {
         }
         None
     }
-}
-
-/// Whether a byte is of base64, of either alphabet (RFC 4648, sections 4 and 5).
-fn is_of_base64(byte: u8) -> bool {
-    byte.is_ascii_alphanumeric() || matches!(byte, b'+' | b'/' | b'-' | b'_' | b'=')
 }
