@@ -110,8 +110,9 @@ cose_gate_answer cose_gate_pass(const uint8_t *accepted, size_t accepted_length,
  * is not read.
  *
  * COSE_GATE_ALL_PASSED: the tag is good. COSE_GATE_SOME_REFUSED: it isn't, no key fits, or the message is a COSE_Sign1, which is read but has
- * no MAC. With both `length` is how many bytes of `message` the message takes. COSE_GATE_LIMITS, COSE_GATE_KEYS: as above.
- * COSE_GATE_STOPPED: no such message is at the front, or memory ran out; `fault` says why. */
+ * no MAC. With both `length` is how many bytes of `message` the message takes, and the payload is the `payload_length` bytes at
+ * `message + payload`. COSE_GATE_LIMITS, COSE_GATE_KEYS: as above. COSE_GATE_STOPPED: no such message is at the front, or memory ran out;
+ * `fault` says why. */
 enum {
   COSE_GATE_NO_FAULT = 0,
   COSE_GATE_NOT_TAGGED = 1, /* the bytes don't begin with a tag */
@@ -124,15 +125,19 @@ enum {
 };
 
 typedef struct cose_gate_stream_answer {
-  uint32_t status; /* COSE_GATE_ALL_PASSED to COSE_GATE_STOPPED */
-  uint32_t fault;  /* why, with COSE_GATE_STOPPED; else COSE_GATE_NO_FAULT */
-  size_t length;   /* bytes of the message if it was judged; else 0 */
+  uint32_t status;       /* COSE_GATE_ALL_PASSED to COSE_GATE_STOPPED */
+  uint32_t fault;        /* why, with COSE_GATE_STOPPED; else COSE_GATE_NO_FAULT */
+  size_t length;         /* bytes of the message if it was judged; else 0 */
+  size_t payload;        /* how many of them are before its payload; else 0 */
+  size_t payload_length; /* bytes of the payload; else 0 */
 } cose_gate_stream_answer;
 
 COSE_GATE_ASSERT(offsetof(cose_gate_stream_answer, status) == 0, "status");
 COSE_GATE_ASSERT(offsetof(cose_gate_stream_answer, fault) == 4, "fault");
 COSE_GATE_ASSERT(offsetof(cose_gate_stream_answer, length) == 8, "length");
-COSE_GATE_ASSERT(sizeof(cose_gate_stream_answer) == 16, "cose_gate_stream_answer");
+COSE_GATE_ASSERT(offsetof(cose_gate_stream_answer, payload) == 16, "payload");
+COSE_GATE_ASSERT(offsetof(cose_gate_stream_answer, payload_length) == 24, "payload_length");
+COSE_GATE_ASSERT(sizeof(cose_gate_stream_answer) == 32, "cose_gate_stream_answer");
 
 cose_gate_stream_answer cose_gate_stream_check(const uint8_t *keys, size_t keys_length,
                                                const uint8_t *aad, size_t aad_length,

@@ -67,30 +67,36 @@ def expect(status, said, content, of=KEYS):
     count += 1
 
 
-for size in (0, 1, 23, 4095, 4096, 4097, 60_000):
-    good = mac0(bytes(at * 7 % 256 for at in range(size)))
-    length = len(good)
-    expect(0, f"genuine, {length} of {length} bytes", good)
-    expect(1, f"not genuine, {length} of {length} bytes", good, of=OTHER)
+for size in (0, 1, 23, 24, 4095, 4096, 4097, 60_000):
+    payload = bytes(at * 7 % 251 for at in range(size))
+    good = mac0(payload)
+    length, place = len(good), 7 + len(head(2, size))
+    said = f"genuine, {length} of {{}} bytes, payload of {size} at {place}"
+    expect(0, said.format(length), good)
+    expect(1, "not " + said.format(length), good, of=OTHER)
     # after the message: nothing is read
-    for more in (b"\xff", b"\x00" * 5000, good):
-        expect(0, f"genuine, {length} of {length + len(more)} bytes", good + more)
+    for more in (b"\xff", bytes(5000), good):
+        expect(0, said.format(length + len(more)), good + more)
     # a byte of the payload, of the tag
-    for at in {length - 34 - size // 2 - 1, length - 1} if size else {length - 1}:
+    for at in {place + size // 2, length - 1} if size else {length - 1}:
         changed = bytearray(good)
         changed[at] ^= 1
-        expect(1, f"not genuine, {length} of {length} bytes", bytes(changed))
+        expect(1, "not " + said.format(length), bytes(changed))
     for at in {0, 1, 2, length // 2, length - 1}:
         expect(4, "decode", good[:at])
 
 small = mac0(b"hello")
+HELLO = "genuine, {0} of {0} bytes, payload of 5 at {1}"
+# the same with wide heads, and an array that is open
+wide = b"\xd8\x11\x9f\x58\x03" + PROTECTED + b"\xb8\x00\x5b" + (5).to_bytes(8, "big") + b"hello" + small[-34:] + b"\xff"
+expect(0, HELLO.format(len(wide), 19), wide)
 for at in range(len(small)):
     expect(4, "decode", small[:at])
 expect(4, "not tagged", small[1:])
 expect(4, "other tag", mac0(b"hello", tag=97))
 expect(4, "other tag", mac0(b"hello", tag=1))
 expect(4, "other tag", b"\xd9\xd9\xf7" + small)
-expect(1, f"not genuine, {len(small)} of {len(small)} bytes", mac0(b"hello", tag=18))
+expect(1, "not " + HELLO.format(len(small), 8), mac0(b"hello", tag=18))
 expect(4, "shape", b"\xd1\x80")
 expect(4, "shape", mac0(b"hello", carried=b"\x18\x2a"))
 expect(4, "detached", mac0(b"hello", carried=b"\xf6"))
@@ -110,7 +116,7 @@ while run(image, keys, name, data=least).returncode != 0:
 write(name, mac0(bytes(1024) * (large >> 10)))
 ran = run(image, keys, name, data=least)
 length = os.path.getsize(name)
-if (ran.returncode, ran.stdout) != (0, f"{name}: genuine, {length} of {length} bytes\n"):
+if (ran.returncode, ran.stdout) != (0, f"{name}: genuine, {length} of {length} bytes, payload of {large} at {7 + len(head(2, large))}\n"):
     sys.exit(f"c-image.py: an image of 64 MiB within {least} bytes: status {ran.returncode}, {ran.stdout!r}{ran.stderr!r}")
 with open(name, "rb") as file:
     if run(check, keys, "", data=least, standard_input=file).returncode == 0:

@@ -155,12 +155,12 @@ static void in_place(bytes input) {
   bool is_judged = answer.status <= COSE_GATE_SOME_REFUSED;
   assert(is_judged || answer.status == COSE_GATE_STOPPED);
   assert(is_judged == (answer.fault == COSE_GATE_NO_FAULT) && is_judged == (answer.length > 0) && answer.fault < COSE_GATE_MEMORY);
+  assert(is_judged == (answer.payload > 0) && answer.payload + answer.payload_length <= answer.length && answer.length <= input.length);
   if (!is_judged) return;
-  assert(answer.length <= input.length);
   bytes one = room_of(answer.length), out = room_of(answer.length), none = room_of(0);
   memcpy(one.at, input.at, one.length);
   cose_gate_stream_answer alone = stream(one);
-  assert(alone.status == answer.status && alone.fault == answer.fault && alone.length == answer.length);
+  assert(memcmp(&alone, &answer, sizeof alone) == 0);
   cose_gate_answer gated = call(0, keys, one, out, none);
   assert((gated.length > 0) == (answer.status == COSE_GATE_ALL_PASSED));
   for (size_t length = 0; length < one.length; length++) {
@@ -186,7 +186,7 @@ static void each_refused_in_place(bytes input) {
   for (refused = 0; refused < all; refused++) {
     calls = 0;
     answer = stream(input);
-    assert(live == 0 && answer.status == COSE_GATE_STOPPED && answer.fault == COSE_GATE_MEMORY && answer.length == 0);
+    assert(live == 0 && answer.status == COSE_GATE_STOPPED && answer.fault == COSE_GATE_MEMORY && answer.length == 0 && answer.payload == 0);
   }
   refused = -1;
   is_watched = 0;

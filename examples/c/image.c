@@ -1,5 +1,5 @@
-/* image KEYS IMAGE..: whether each file begins with a COSE_Mac0 whose tag is good under one of the keys, and how many bytes that takes. A file
- * is mapped, and its payload is not copied. The status is the highest of the library's. Build and run: `bash scripts/c-library.sh image`. */
+/* image KEYS IMAGE..: whether each file begins with a COSE_Mac0 whose tag is good under one of the keys, how many bytes that takes, and which of
+ * them are its payload. A file is mapped, and its payload is not copied. The status is the highest of the library's. Build and run: `bash scripts/c-library.sh image`. */
 #define _POSIX_C_SOURCE 200809L
 #include "cose_gate.h"
 
@@ -46,8 +46,8 @@ static uint32_t check(bytes keys, const char *path) {
   switch (answer.status) {
     case COSE_GATE_ALL_PASSED:
     case COSE_GATE_SOME_REFUSED:
-      printf("%s: %s, %zu of %zu bytes\n", path, answer.status == COSE_GATE_ALL_PASSED ? "genuine" : "not genuine", answer.length,
-             image.length);
+      printf("%s: %s, %zu of %zu bytes, payload of %zu at %zu\n", path, answer.status == COSE_GATE_ALL_PASSED ? "genuine" : "not genuine",
+             answer.length, image.length, answer.payload_length, answer.payload);
       break;
     case COSE_GATE_KEYS:
       printf("%s: no key set\n", path);

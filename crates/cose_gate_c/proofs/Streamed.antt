@@ -18,12 +18,15 @@ use Rattle.cose_gate.specs.Questions.{Question, MessageFields, sign1, mac0, sign
 use Rattle.cose_gate.specs.ReadError.TheVariants as de
 use Rattle.cose_gate.specs.Reading.{IfKnown}
 use Rattle.cose_gate.specs.SignedStructure.{sign1_covered}
-use Rattle.cose_gate.specs.Stated.{IsSingle, Stated}
-use Rattle.cose_gate.specs.Streaming.{CheckedBy, damaged, untagged, tagged, shape, without_payload, without_length, refused, HoldsNoMemory, Tells, IsLongFor, UnstreamedBy, Answered}
+use Rattle.cose_gate.proofs.Lengths.{stated_whole}
+use Rattle.cose_gate.specs.Stated.{IsSingle, Stated, closing}
+use Rattle.cose_gate.specs.Streaming.{CheckedBy, damaged, untagged, tagged, shape, without_payload, without_length, refused, HoldsNoMemory, Tells, IsLongFor, IsBegun, UnstreamedBy, Answered}
 use Rattle.cose_gate.specs.Tree.{Tree}
 use Rattle.cose_gate.specs.declared.fault.StreamFault.{StreamFault}
 use Rattle.cose_gate.specs.declared.fault.StreamFault.TheVariants as fault
+use Rattle.cose_gate_c.specs.Places.{IsPlace}
 use Rattle.cose_gate_c.specs.Streaming.{ChecksFront, IsAnswered, IsChecked, IsStopped, IsUnchecked, StreamChecks, ran, fault_number}
+use Rattle.cose_gate_c.specs.declared.placing.Place.{Place}
 use Rattle.cose_gate_c.specs.declared.streaming.StreamAnswer.{StreamAnswer}
 
 one_answer : (b : Bool) → is_none (if b then option_map (λ (n : ℕ). n + 1) None else Some 0) ≡ b
@@ -53,34 +56,73 @@ module _ {T : Type 0} (limits : Bounds) (allows : Question → Bool) (decided : 
       let q = asked_once allows c.message aad c.single (law c.item c.message aad c.is) in
       record { item = c.item; message = c.message; size = c.size; question = q.0; reads = c.reads; is = c.is; single = c.single; stated = c.stated; asked = q.1; answer = c.answer ∙ q.2 }
 
-  is_checked : (left' : Option (List ℕ)) (place : ℕ) → Moves (Some input) left' 0 place (CheckedBy limits decided allows aad told told' room lengths yes)
-      → a.status ≡ (if yes then 0 else 1) → a.fault ≡ 0 → a.length ≡ place → IsChecked limits allows aad input a
-  is_checked None place m status fault len = absurd m.taken
-  is_checked (Some rest) place m status fault len = record {
-    front = m.bytes;
-    rest = rest;
-    whole = m.taken;
-    yes = yes;
-    answered = answered m.bytes m.has;
-    status_is = status;
-    fault_is = fault;
-    length_is = len ∙ (m.grown ∙ zero-add (length m.bytes));
-  }
+  is_checked : (left' : Option (List ℕ)) (at : ℕ) (place : Place) → Moves (Some input) left' 0 at (CheckedBy limits decided allows aad told told' room lengths yes)
+      → IsPlace input place → a.status ≡ (if yes then 0 else 1) → a.fault ≡ 0 → a.length ≡ at → a.payload ≡ place.at → a.payload_length ≡ place.length
+      → IsChecked limits allows aad input a
+  unfolding answered
+  is_checked None at place m is status fault len begins size = absurd m.taken
+  is_checked (Some rest) at place m is status fault len begins size =
+      let p = is m.bytes rest m.has.size m.has.stated m.taken in
+      record {
+        front = m.bytes;
+        rest = rest;
+        whole = m.taken;
+        yes = yes;
+        answered = answered m.bytes m.has;
+        status_is = status;
+        fault_is = fault;
+        length_is = len ∙ (m.grown ∙ zero-add (length m.bytes));
+        payload_is = begins ∙ p.0;
+        payload_length_is = size ∙ p.1;
+      }
+
+  -- such a message begins with its tag and an array of four
+  begun : (left' : Option (List ℕ)) (at : ℕ) → Moves (Some input) left' 0 at (CheckedBy limits decided allows aad told told' room lengths yes) → IsBegun input
+  begun None at m = absurd m.taken
+  begun (Some rest) at m =
+      let s = m.has.stated in
+      let items : List ℕ = s.headers ++ (s.length_title ++ ((s.payload ++ (s.last ++ closing s.count)) ++ rest)) in
+      record {
+        number = s.number;
+        inside = s.array_title ++ items;
+        count = s.count;
+        items = items;
+        is_single = s.is_single;
+        tag_first = record { title = s.tag_title; is_title = s.is_tag; whole = stated_whole input m.bytes rest m.has.size s m.taken };
+        array_next = record { title = s.array_title; is_title = s.is_array; whole = refl };
+        is_four = s.is_four;
+      }
 
 -- as above, from a decoder of which all is known
 module _ {T : Type 0} (limits : Bounds) (ks ks' : List KeyFields) (decided : T → Question → T) (aad input : List ℕ) (told told' : T) (room : ℕ)
-    (lengths : List ℕ) (left left' : Option (List ℕ)) (at place : ℕ) (yes : Bool) (a : StreamAnswer)
+    (lengths : List ℕ) (left left' : Option (List ℕ)) (at at' : ℕ) (yes : Bool) (a : StreamAnswer)
     (law : (t : Tree) (m : MessageFields) (aad : List ℕ) → IsJudged limits t m → all_questions m aad ≡ Some (questions m aad)) where
-  pub checks : left ≡ Some input → at ≡ 0 → ks' ≡ ks → Moves left left' at place (CheckedBy limits decided (says_yes ks') aad told told' room lengths yes)
-      → a.status ≡ (if yes then 0 else 1) → a.fault ≡ 0 → a.length ≡ place → ChecksFront limits (says_yes ks) aad input a
-  checks is start same m status fault len =
-      let from = subst (λ (l : Option (List ℕ)). Moves l left' at place (CheckedBy limits decided (says_yes ks') aad told told' room lengths yes)) is m in
-      let here = subst (λ (n : ℕ). Moves (Some input) left' n place (CheckedBy limits decided (says_yes ks') aad told told' room lengths yes)) start from in
-      let by = subst (λ (k : List KeyFields). Moves (Some input) left' 0 place (CheckedBy limits decided (says_yes k) aad told told' room lengths yes)) same here in
-      record {
-        ended = inl (is_checked limits (says_yes ks) decided aad input told told' room lengths yes a law left' place by status fault len);
-        stated = λ t front rest message size e reads judged single stated. inl fault;
-      }
+  here : left ≡ Some input → at ≡ 0 → ks' ≡ ks → Moves left left' at at' (CheckedBy limits decided (says_yes ks') aad told told' room lengths yes)
+      → Moves (Some input) left' 0 at' (CheckedBy limits decided (says_yes ks) aad told told' room lengths yes)
+  here is start same m =
+      let known = subst (λ (l : Option (List ℕ)). Moves l left' at at' (CheckedBy limits decided (says_yes ks') aad told told' room lengths yes)) is m in
+      let from = subst (λ (n : ℕ). Moves (Some input) left' n at' (CheckedBy limits decided (says_yes ks') aad told told' room lengths yes)) start known in
+      subst (λ (k : List KeyFields). Moves (Some input) left' 0 at' (CheckedBy limits decided (says_yes k) aad told told' room lengths yes)) same from
+
+  pub checks : left ≡ Some input → at ≡ 0 → ks' ≡ ks → Moves left left' at at' (CheckedBy limits decided (says_yes ks') aad told told' room lengths yes)
+      → (place : Place) → IsPlace input place → a.status ≡ (if yes then 0 else 1) → a.fault ≡ 0 → a.length ≡ at' → a.payload ≡ place.at
+      → a.payload_length ≡ place.length → ChecksFront limits (says_yes ks) aad input a
+  checks is start same m place there status fault len begins size = record {
+    ended = inl (is_checked limits (says_yes ks) decided aad input told told' room lengths yes a law left' at' place (here is start same m) there status fault len begins size);
+    stated = λ t front rest message size e reads judged single stated. inl fault;
+  }
+
+  -- memory ran out after the check
+  pub forgets : left ≡ Some input → at ≡ 0 → ks' ≡ ks → Moves left left' at at' (CheckedBy limits decided (says_yes ks') aad told told' room lengths yes)
+      → IsUnchecked 4 7 a → ChecksFront limits (says_yes ks) aad input a
+  forgets is start same m u = record {
+    ended = inr (record {
+      why = refused;
+      shown = begun limits (says_yes ks) decided aad input told told' room lengths yes a law left' at' (here is start same m);
+      unchecked = u;
+    });
+    stated = λ t front rest message size e reads judged single stated. inr u.fault_is;
+  }
 
 -- a fault says why the message was not checked; an input in memory is never too long
 module _ (limits : Bounds) (input : List ℕ) (fits : length input < 2 ^ 63) (a : StreamAnswer) where

@@ -15,6 +15,7 @@ use Rattle.cose_gate.specs.Tree.{Tree}
 use Rattle.cose_gate.specs.WrongKeys.{WrongKeySet}
 use Rattle.cose_gate.specs.declared.fault.StreamFault.{StreamFault}
 use Rattle.cose_gate.specs.declared.fault.StreamFault.TheVariants as fault
+use Rattle.cose_gate_c.specs.Places.{before_payload}
 use Rattle.cose_gate_c.specs.declared.streaming.StreamAnswer.{StreamAnswer}
 
 -- the number of a fault, as C has it; 0 is none
@@ -41,6 +42,8 @@ pub record IsUnchecked (status fault : ℕ) (answer : StreamAnswer) : Type 0 whe
   pub status_is : answer.status ≡ status
   pub fault_is : answer.fault ≡ fault
   pub length_is : answer.length ≡ 0
+  pub payload_is : answer.payload ≡ 0
+  pub payload_length_is : answer.payload_length ≡ 0
 
 -- within these limits the bytes are one message that states its payload's length in front; it has
 -- one question, and this is the answer to it
@@ -57,7 +60,8 @@ pub record IsAnswered (limits : Bounds) (allows : Question → Bool) (aad : List
   pub asked : all_questions message aad ≡ Some (question ∷ [])
   pub answer : yes ≡ allows question
 
--- the bytes begin with such a message: 0 after a yes, 1 after a no, and how long the message is
+-- the bytes begin with such a message: 0 after a yes, 1 after a no, how long the message is, and
+-- where its payload is in them
 pub record IsChecked (limits : Bounds) (allows : Question → Bool) (aad input : List ℕ)
     (answer : StreamAnswer) : Type 0 where
   pub front : List ℕ
@@ -68,6 +72,8 @@ pub record IsChecked (limits : Bounds) (allows : Question → Bool) (aad input :
   pub status_is : answer.status ≡ (if yes then 0 else 1)
   pub fault_is : answer.fault ≡ 0
   pub length_is : answer.length ≡ length front
+  pub payload_is : answer.payload ≡ length (before_payload answered.stated)
+  pub payload_length_is : answer.payload_length ≡ answered.size
 
 -- the bytes begin with none, or memory ran out: what the fault says of them is true
 pub record IsStopped (limits : Bounds) (input : List ℕ) (answer : StreamAnswer) : Type 0 where

@@ -6,6 +6,7 @@ ghost use Rattle.std.specs.Prelude.{◌≡◌};
 ghost use Rattle.cose_gate_c.specs.Streaming.{StreamChecks};
 ghost use Rattle.cose_gate_records.specs.Calls.{Asks, Checks, Passes, buffers};
 
+mod placing;
 mod streaming;
 
 use crate::streaming::{StreamAnswer, check_message};
@@ -84,8 +85,8 @@ pub extern "C" fn cose_gate_pass(
     pass(alloc, choice, accepted, aad, input, out, lines)
 }
 
-/// The streaming check of the COSE_Mac0 at the front of `message`, which is read in place. What
-/// comes after it is not read.
+/// The streaming check of the COSE_Mac0 at the front of `message`, which is read in place, and where
+/// its payload is. What comes after it is not read.
 #[unsafe(no_mangle)]
 pub extern "C" fn cose_gate_stream_check(
     alloc: Global,

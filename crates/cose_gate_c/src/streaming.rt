@@ -7,6 +7,7 @@ ghost use Rattle.cose_gate.specs.KeyView.{key_set_view};
 ghost use Rattle.cose_gate_c.specs.Streaming as spec;
 ghost use Rattle.cose_gate_c.specs.Streaming.{ChecksFront, IsUnchecked, StreamChecks};
 
+use crate::placing::{Place, payload_place};
 use cose_gate::laws::judged_can_be_written;
 use cose_gate::{
     CborSerializable, CoseError, CoseKeySet, Decoder, End, HmacJudge, Limits, StreamFault,
@@ -27,18 +28,26 @@ pub struct StreamAnswer {
     pub fault: u32,
     /// The bytes of the message, with 0 and 1; else 0.
     pub length: usize,
+    /// Where its payload begins, with 0 and 1; else 0.
+    pub payload: usize,
+    /// The bytes of the payload, with 0 and 1; else 0.
+    pub payload_length: usize,
 }
 
-/// The answer of a judge about a message of so many bytes.
-fn checked(yes: bool, length: usize) -> StreamAnswer
+/// The answer of a judge about a message of so many bytes, whose payload is there.
+fn checked(yes: bool, length: usize, payload: Place) -> StreamAnswer
     ensures status { result.status ≡ (if yes then 0 else 1) }
     ensures fault { result.fault ≡ 0 }
     ensures length { result.length ≡ length }
+    ensures payload { result.payload ≡ payload.at }
+    ensures payload_length { result.payload_length ≡ payload.length }
 {
     StreamAnswer {
         status: if yes { 0 } else { 1 },
         fault: 0,
         length,
+        payload: payload.at,
+        payload_length: payload.length,
     }
 }
 
@@ -50,6 +59,8 @@ fn unchecked(status: u32, fault: u32) -> StreamAnswer
         status,
         fault,
         length: 0,
+        payload: 0,
+        payload_length: 0,
     }
 }
 
@@ -84,7 +95,10 @@ fn check_front(
     let mut decoder = Decoder::from(input);
     let mut buffer = [0; 4096];
     match stream_check_with(alloc, limits, &mut decoder, &mut buffer, aad, &mut judge) {
-        Ok(yes) => checked(yes, decoder.offset()),
+        Ok(yes) => match payload_place(alloc, limits.nesting(), input) {
+            Ok(payload) => checked(yes, decoder.offset(), payload),
+            Err(_) => unchecked(4, 7),
+        },
         Err(fault) => unchecked(4, fault_number(&fault)),
     }
 }
