@@ -1,5 +1,5 @@
 -- What the clauses of the streaming check say of a message in memory.
-use Rattle.std.proofs.Common.{◌≡◌, ℕ, ◌+◌, ◌^◌, ◌<◌, inl, inr, List, [], ◌∷◌, ◌++◌, length, Option, None, Some, Bool, true, false, zero-add, refl, subst, ◌∙◌, arith}
+use Rattle.std.proofs.Common.{◌≡◌, ℕ, ◌+◌, ◌^◌, ◌<◌, inl, inr, List, [], ◌∷◌, ◌++◌, length, Option, None, Some, Bool, true, false, zero-add, append_assoc, refl, sym, subst, ◌∙◌, arith}
 use Rattle.std.specs.Prelude.{◌⊎◌, is_none, option_map, if◌then◌else◌, Err}
 use Rattle.ciborium_ll.specs.Reading.{Moves}
 use Rattle.ciborium_ll.specs.declared.read.End.{End}
@@ -24,7 +24,8 @@ use Rattle.cose_gate.specs.Streaming.{CheckedBy, damaged, untagged, tagged, shap
 use Rattle.cose_gate.specs.Tree.{Tree}
 use Rattle.cose_gate.specs.declared.fault.StreamFault.{StreamFault}
 use Rattle.cose_gate.specs.declared.fault.StreamFault.TheVariants as fault
-use Rattle.cose_gate_c.specs.Places.{IsPlace}
+use Rattle.cose_gate_c.proofs.Carried.{carried, paid}
+use Rattle.cose_gate_c.specs.Places.{IsPlace, before_payload}
 use Rattle.cose_gate_c.specs.Streaming.{ChecksFront, IsAnswered, IsChecked, IsStopped, IsUnchecked, StreamChecks, ran, fault_number}
 use Rattle.cose_gate_c.specs.declared.placing.Place.{Place}
 use Rattle.cose_gate_c.specs.declared.streaming.StreamAnswer.{StreamAnswer}
@@ -62,18 +63,27 @@ module _ {T : Type 0} (limits : Bounds) (allows : Question → Bool) (decided : 
   unfolding answered
   is_checked None at place m is status fault len begins size = absurd m.taken
   is_checked (Some rest) at place m is status fault len begins size =
-      let p = is m.bytes rest m.has.size m.has.stated m.taken in
+      let s = m.has.stated in
+      let p = is m.bytes rest m.has.size s m.taken in
+      let items = carried m.bytes m.has.size s limits.nesting m.has.item m.has.reads in
       record {
         front = m.bytes;
         rest = rest;
         whole = m.taken;
         yes = yes;
         answered = answered m.bytes m.has;
+        payload = s.payload;
+        is_payload = paid limits m.has.item m.has.message s.number items.0 items.1 items.2 s.payload m.has.is m.has.single items.3;
+        lies = record {
+          before = before_payload s;
+          after = s.last ++ closing s.count;
+          whole = s.whole ∙ simp append_assoc;
+          at_is = begins ∙ p.0;
+          size_is = size ∙ p.1 ∙ sym s.is_payload;
+        };
         status_is = status;
         fault_is = fault;
         length_is = len ∙ (m.grown ∙ zero-add (length m.bytes));
-        payload_is = begins ∙ p.0;
-        payload_length_is = size ∙ p.1;
       }
 
   -- such a message begins with its tag and an array of four

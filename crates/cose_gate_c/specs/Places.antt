@@ -19,3 +19,11 @@ abbrev pub IsPlace : List ℕ → Place → Type 0
 IsPlace input place =
     (front rest : List ℕ) (size : ℕ) (s : Stated front size) → input ≡ front ++ rest
     → (place.at ≡ length (before_payload s)) × (place.length ≡ size)
+
+-- these bytes lie in b: they begin at this place, and are so many
+pub record Lies (part : List ℕ) (at size : ℕ) (b : List ℕ) : Type 0 where
+  pub before : List ℕ
+  pub after : List ℕ
+  pub whole : b ≡ before ++ (part ++ after)
+  pub at_is : at ≡ length before
+  pub size_is : size ≡ length part

@@ -8,14 +8,14 @@ use Rattle.cose_gate.specs.Front.{Reads}
 use Rattle.cose_gate.specs.HmacJudges.{says_yes}
 use Rattle.cose_gate.specs.KeyFields.{KeyFields}
 use Rattle.cose_gate.specs.Keys.{HasKeySet}
-use Rattle.cose_gate.specs.Questions.{Question, MessageFields, all_questions}
+use Rattle.cose_gate.specs.Questions.{Question, MessageFields, all_questions, payload_of}
 use Rattle.cose_gate.specs.Stated.{IsSingle, Stated}
 use Rattle.cose_gate.specs.Streaming.{Why, damaged, untagged, tagged, shape, without_payload, without_length, refused, UnstreamedBy}
 use Rattle.cose_gate.specs.Tree.{Tree}
 use Rattle.cose_gate.specs.WrongKeys.{WrongKeySet}
 use Rattle.cose_gate.specs.declared.fault.StreamFault.{StreamFault}
 use Rattle.cose_gate.specs.declared.fault.StreamFault.TheVariants as fault
-use Rattle.cose_gate_c.specs.Places.{before_payload}
+use Rattle.cose_gate_c.specs.Places.{Lies}
 use Rattle.cose_gate_c.specs.declared.streaming.StreamAnswer.{StreamAnswer}
 
 -- the number of a fault, as C has it; 0 is none
@@ -61,7 +61,7 @@ pub record IsAnswered (limits : Bounds) (allows : Question → Bool) (aad : List
   pub answer : yes ≡ allows question
 
 -- the bytes begin with such a message: 0 after a yes, 1 after a no, how long the message is, and
--- where its payload is in them
+-- where its payload lies in it
 pub record IsChecked (limits : Bounds) (allows : Question → Bool) (aad input : List ℕ)
     (answer : StreamAnswer) : Type 0 where
   pub front : List ℕ
@@ -69,11 +69,12 @@ pub record IsChecked (limits : Bounds) (allows : Question → Bool) (aad input :
   pub whole : input ≡ front ++ rest
   pub yes : Bool
   pub answered : IsAnswered limits allows aad yes front
+  pub payload : List ℕ
+  pub is_payload : payload_of answered.message ≡ Some payload
+  pub lies : Lies payload answer.payload answer.payload_length front
   pub status_is : answer.status ≡ (if yes then 0 else 1)
   pub fault_is : answer.fault ≡ 0
   pub length_is : answer.length ≡ length front
-  pub payload_is : answer.payload ≡ length (before_payload answered.stated)
-  pub payload_length_is : answer.payload_length ≡ answered.size
 
 -- the bytes begin with none, or memory ran out: what the fault says of them is true
 pub record IsStopped (limits : Bounds) (input : List ℕ) (answer : StreamAnswer) : Type 0 where
