@@ -6,6 +6,7 @@
  * Memory: a call takes memory by malloc, realloc and free, and has given all of it back when it returns. If it runs out of memory, the last
  *   line is `stopped: memory`, in place of the one that the run ended with. A call holds one item, which a sender can make large: an item of
  *   small integers takes 32 times its bytes, one of many small signatures or recipients up to 180 times (docs/TIMES.md, "Memory").
+ *   cose_gate_stream_check holds no payload; it has no lines, and its fault is COSE_GATE_MEMORY.
  *   The three functions are those of one allocator, and malloc and realloc align to each power of two up to 16 that divides the size.
  * Stack: with 256 levels and 16 layers each call was seen to take up to 179 KiB, on the worst messages of each shape that we could make; with
  *   the widest limits, 4,096 and 64, up to 6,157 KiB. What Rattle's own compiler builds takes up to 3,530 KiB and more (docs/TIMES.md, "Stack").
@@ -100,6 +101,48 @@ cose_gate_answer cose_gate_pass(const uint8_t *accepted, size_t accepted_length,
                                 uint8_t *out, size_t out_length,
                                 uint8_t *lines, size_t lines_length,
                                 size_t nesting, size_t layers, bool strict);
+
+/* One message that is checked in place: a firmware image in a mapped file, say.
+ *
+ * cose_gate_stream_check checks the message at the front of `message`: a COSE_Mac0 with its tag, 17, whose payload is a byte string that states
+ * its length in front (RFC 9052, section 6.2). It judges as cose_gate_check does: by HMAC with SHA-256 under the first key of `keys` that fits.
+ * The payload is hashed 4 KiB at a time, and never copied as a whole. The message is read to its end before it is judged; what comes after it
+ * is not read.
+ *
+ * COSE_GATE_ALL_PASSED: the tag is good. COSE_GATE_SOME_REFUSED: it isn't, no key fits, or the message is a COSE_Sign1, which is read but has
+ * no MAC. With both `length` is how many bytes of `message` the message takes, and the payload is the `payload_length` bytes at
+ * `message + payload`. COSE_GATE_LIMITS, COSE_GATE_KEYS: as above. COSE_GATE_STOPPED: no such message is at the front, or memory ran out;
+ * `fault` says why. */
+enum {
+  COSE_GATE_NO_FAULT = 0,
+  COSE_GATE_NOT_TAGGED = 1, /* the bytes don't begin with a tag */
+  COSE_GATE_OTHER_TAG = 2,  /* they begin with another tag than 17 and 18 */
+  COSE_GATE_SHAPE = 3,      /* no message of its tag: a wrong number of elements, an element of a wrong type, a header that is wrong or too deep */
+  COSE_GATE_DETACHED = 4,   /* the message doesn't carry its payload */
+  COSE_GATE_UNSIZED = 5,    /* the payload is a byte string in chunks */
+  COSE_GATE_DECODE = 6,     /* the bytes are cut short or damaged, or nest too deep */
+  COSE_GATE_MEMORY = 7      /* memory ran out */
+};
+
+typedef struct cose_gate_stream_answer {
+  uint32_t status;       /* COSE_GATE_ALL_PASSED to COSE_GATE_STOPPED */
+  uint32_t fault;        /* why, with COSE_GATE_STOPPED; else COSE_GATE_NO_FAULT */
+  size_t length;         /* bytes of the message if it was judged; else 0 */
+  size_t payload;        /* how many of them are before its payload; else 0 */
+  size_t payload_length; /* bytes of the payload; else 0 */
+} cose_gate_stream_answer;
+
+COSE_GATE_ASSERT(offsetof(cose_gate_stream_answer, status) == 0, "status");
+COSE_GATE_ASSERT(offsetof(cose_gate_stream_answer, fault) == 4, "fault");
+COSE_GATE_ASSERT(offsetof(cose_gate_stream_answer, length) == 8, "length");
+COSE_GATE_ASSERT(offsetof(cose_gate_stream_answer, payload) == 16, "payload");
+COSE_GATE_ASSERT(offsetof(cose_gate_stream_answer, payload_length) == 24, "payload_length");
+COSE_GATE_ASSERT(sizeof(cose_gate_stream_answer) == 32, "cose_gate_stream_answer");
+
+cose_gate_stream_answer cose_gate_stream_check(const uint8_t *keys, size_t keys_length,
+                                               const uint8_t *aad, size_t aad_length,
+                                               const uint8_t *message, size_t message_length,
+                                               size_t nesting, size_t layers);
 
 /* The kinds of messages that are asked about, by their tags (RFC 9052, section 2). */
 enum { COSE_GATE_MAC0 = 17, COSE_GATE_SIGN1 = 18, COSE_GATE_MAC = 97, COSE_GATE_SIGN = 98 };

@@ -5,8 +5,8 @@
 #   heap      capped.sh: memory that is held
 #   refused   fail-alloc.sh: each allocation refused
 #   time      instructions.py: instructions of a message, of a wrong tag, and by the number of parts
-#   library   c-library.sh: the archive, its examples in C and Python, what it gives against the program, memory. `stack` waits for it, and
-#             looks at its calls too
+#   library   c-library.sh: the archive, its examples in C and Python, images, what it gives against the program, memory. `stack` waits for
+#             it, and looks at its calls too
 #   users     the rows below: the programs as a user runs them
 #   tools     tools/test.sh: cose-verify, cose-key and cose-make, over the programs
 #   try       try.sh: cose-gate built unproved
@@ -228,7 +228,7 @@ try() {
   cd "$top/examples" && bash "$top/scripts/try.sh" cose-gate keys.cbor 01 < mixed.cbor > "$folder/tried" || status=$?
   [ $status = 1 ] && cmp "$folder/tried" "$top/crates/cose_gate_cli/stdout" && echo "the same as the proved program"
 }
-library() { bash "$top/scripts/c-library.sh" left c python compare memory; }
+library() { bash "$top/scripts/c-library.sh" left c python image compare memory; }
 
 # Runs a step, and says what became of it.
 step() {

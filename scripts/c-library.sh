@@ -1,7 +1,8 @@
 #!/usr/bin/env bash
-# c-library.sh [left] [c|rust|go|python|compare|memory|valgrind..]: proves and builds the static library cose_gate_c if a source of it has
+# c-library.sh [left] [c|rust|go|python|image|compare|memory|valgrind..]: proves and builds the static library cose_gate_c if a source of it has
 # changed, and then builds and runs what is asked, or all, with the tools that are there; it says which are not.
 #   c, rust, go, python   the example of that language on examples/mixed.cbor: status 1, four messages passed; of Python also es256.py
+#   image                 examples/c/image.c over good, changed and cut images, one of 64 MiB without a copy
 #   compare               what these examples, or all, give against what the program gives, over examples/*.cbor; the library's shared object
 #                         against the program over the rows `run` of conformance_gate, and over 1,000 mutated sequences
 #   memory                the C test under ASan, and with each malloc refused in turn, over the worked examples and 1,000 mutated ones; archive
@@ -33,7 +34,7 @@ what=
 for word; do
   case $word in
     left) left=yes ;;
-    c | rust | go | python | compare | memory | valgrind) what="$what $word " ;;
+    c | rust | go | python | image | compare | memory | valgrind) what="$what $word " ;;
     *) fails "no such argument: $word; the head of this script has those that there are" ;;
   esac
 done
@@ -78,7 +79,8 @@ if is_old && ! build > "$out/lib.log" 2>&1; then
   exit 70
 fi
 
-build_c() { gcc -std=c11 -O2 -Wall -Wextra -Werror -I "$top/include" "$top/examples/c/check.c" "$archive" "$libc" -o "$made/check_c"; }
+build_of() { gcc -std=c11 -O2 -Wall -Wextra -Werror -I "$top/include" "$top/examples/c/$1.c" "$archive" "$libc" -o "$made/$1_c"; }
+build_c() { build_of check; }
 build_python() { gcc -shared -o "$made/libcose_gate.so" -Wl,--whole-archive "$archive" -Wl,--no-whole-archive "$libc"; }
 build_rust() {
   (cd "$top/examples/rust" && COSE_GATE_LIBRARY=$archive RATTLE_LIBC=$libc cargo build --quiet --release --offline --target-dir "$made/rust")
@@ -134,6 +136,16 @@ if wants python && has gcc; then
     echo "c-library.sh: es256.py: $(echo "$said" | tail -n 1)"
   else
     lacks "python3 with cbor2 and cryptography (Debian's python3-cbor2, python3-cryptography)" "es256.py"
+  fi
+fi
+
+if wants image; then
+  if has gcc && has python3; then
+    build_of image
+    build_of check
+    python3 "$top/scripts/c-image.py" "$made/image_c" "$made/check_c"
+  else
+    lacks "gcc or python3" "the check of images"
   fi
 fi
 

@@ -1,6 +1,7 @@
 /* c-memory.c: KEYS FILE..: the library under tools that watch memory, over each file: output buffers from none to more than is needed, with bytes
- * after them that must stay as they are; and the questions, all of which are then accepted. With -DREFUSE each malloc and realloc is refused
- * in turn, over the first file, no block may be left, and the last line has to say it, after whole lines of the run. */
+ * after them that must stay as they are; the questions, all of which are then accepted; and the message at its front in place, which the gate
+ * has to judge the same. With -DREFUSE each malloc and realloc is refused in turn, over the first file, no block may be left, and the last
+ * line, or the fault, has to say it, after whole lines of the run. */
 #define _GNU_SOURCE
 #include "cose_gate.h"
 
@@ -144,7 +145,54 @@ static size_t each_call(bytes input, bool all) {
   return count;
 }
 
+static cose_gate_stream_answer stream(bytes input) {
+  return cose_gate_stream_check(keys.at, keys.length, aad, 1, input.at, input.length, COSE_GATE_NESTING, COSE_GATE_LAYERS);
+}
+
+/* The message at the front, with what comes after it and alone, in a block of just its length; and what the gate says of it. */
+static void in_place(bytes input) {
+  cose_gate_stream_answer answer = stream(input);
+  bool is_judged = answer.status <= COSE_GATE_SOME_REFUSED;
+  assert(is_judged || answer.status == COSE_GATE_STOPPED);
+  assert(is_judged == (answer.fault == COSE_GATE_NO_FAULT) && is_judged == (answer.length > 0) && answer.fault < COSE_GATE_MEMORY);
+  assert(is_judged == (answer.payload > 0) && answer.payload + answer.payload_length <= answer.length && answer.length <= input.length);
+  if (!is_judged) return;
+  bytes one = room_of(answer.length), out = room_of(answer.length), none = room_of(0);
+  memcpy(one.at, input.at, one.length);
+  cose_gate_stream_answer alone = stream(one);
+  assert(memcmp(&alone, &answer, sizeof alone) == 0);
+  cose_gate_answer gated = call(0, keys, one, out, none);
+  assert((gated.length > 0) == (answer.status == COSE_GATE_ALL_PASSED));
+  for (size_t length = 0; length < one.length; length++) {
+    bytes cut = room_of(length);
+    memcpy(cut.at, one.at, length);
+    alone = stream(cut);
+    assert(alone.status == COSE_GATE_STOPPED && alone.fault == COSE_GATE_DECODE && alone.length == 0);
+    free(cut.at);
+  }
+  free(one.at);
+  free(out.at);
+  free(none.at);
+}
+
 #ifdef REFUSE
+static void each_refused_in_place(bytes input) {
+  is_watched = 1;
+  calls = 0;
+  refused = -1;
+  cose_gate_stream_answer answer = stream(input);
+  long all = calls;
+  assert(live == 0 && answer.status == COSE_GATE_ALL_PASSED);
+  for (refused = 0; refused < all; refused++) {
+    calls = 0;
+    answer = stream(input);
+    assert(live == 0 && answer.status == COSE_GATE_STOPPED && answer.fault == COSE_GATE_MEMORY && answer.length == 0 && answer.payload == 0);
+  }
+  refused = -1;
+  is_watched = 0;
+  printf("c-memory: cose_gate_stream_check: %ld mallocs, each refused in turn: %ld times stopped, as the fault says, no block left\n", all, all);
+}
+
 static void each_refused(int which, bytes given, bytes input) {
   static uint8_t room[65536], text[4096], whole[4096];
   static const char *const names[] = {"cose_gate_check", "cose_gate_ask", "cose_gate_pass"}, said[] = "stopped: memory\n";
@@ -185,6 +233,7 @@ int main(int count, char **words) {
   for (int i = 2; i < count; i++) {
     bytes input = read_file(words[i]);
     questions += each_call(input, i == 2);
+    in_place(input);
     free(input.at);
   }
   printf("c-memory: %d inputs with %zu questions, room from none to more than is needed: as it should be\n", count - 2, questions);
@@ -195,6 +244,7 @@ int main(int count, char **words) {
   each_refused(0, keys, input);
   each_refused(1, keys, input);
   each_refused(2, records, input);
+  each_refused_in_place(input);
   free(input.at);
   free(lines.at);
   free(records.at);

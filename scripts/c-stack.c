@@ -1,6 +1,6 @@
 /* c-stack.c: KEYS NESTING LAYERS FILE..: the stack that each call of the library takes over each file, in a thread whose stack is filled with a
- * pattern before; a thread's start is among it. A line for each file: its bytes for cose_gate_check, cose_gate_ask, and cose_gate_pass with
- * the records that cose_gate_ask gave, and what the program would say of its first message. */
+ * pattern before; a thread's start is among it. A line for each file: its bytes for cose_gate_check, cose_gate_ask, cose_gate_pass with the
+ * records that cose_gate_ask gave, and for cose_gate_stream_check; and what the program would say of its first message. */
 #define _GNU_SOURCE
 #include "cose_gate.h"
 
@@ -30,6 +30,11 @@ static void read_file(const char *path, bytes *to) {
 
 static void *on_stack(void *unused) {
   (void)unused;
+  if (which == 3) {
+    cose_gate_stream_answer streamed = cose_gate_stream_check(keys.at, keys.length, keys.at, 0, input.at, input.length, nesting, layers);
+    assert(streamed.status != COSE_GATE_LIMITS && streamed.status != COSE_GATE_KEYS && streamed.fault != COSE_GATE_MEMORY);
+    return NULL;
+  }
   cose_gate_answer answer;
   bytes *to = which == 1 ? &records : &output;
   switch (which) {
@@ -78,7 +83,8 @@ int main(int count, char **words) {
     char line[64] = {0};
     size_t length = strcspn((char *)lines.at, "\n");
     memcpy(line, lines.at, length < 63 ? length : 63);
-    printf("%zu %zu %zu %s\n", check, stack_of(1), stack_of(2), line);
+    size_t ask = stack_of(1), pass = stack_of(2);
+    printf("%zu %zu %zu %zu %s\n", check, ask, pass, stack_of(3), line);
   }
   return 0;
 }

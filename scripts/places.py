@@ -37,8 +37,8 @@ def refusals():
 
 def statuses():
     header = "include/cose_gate.h"
-    numbers = dict(found(header, r"^  (COSE_GATE_\w+) = (\d),? +/\*"))
-    same("the statuses are", ["0", "1", "2", "3", "4", "5"], header, list(numbers.values()))
+    listed = re.search(r"^/\* The statuses: .*?^enum \{(.*?)^\};", text(header), re.M | re.S)[1]
+    same("the statuses are", ["0", "1", "2", "3", "4", "5"], header, re.findall(r"^  COSE_GATE_\w+ = (\d)", listed, re.M))
     same("the errors have the statuses", ["2", "3", "4", "5"], "examples/python/cose_gate.py",
          found("examples/python/cose_gate.py", r"^    status = (\d)$"))
     same("the statuses are", ["0 | 1", "2", "3", "5", "_"], "examples/rust/src/main.rs",
@@ -46,6 +46,14 @@ def statuses():
     for name in ["gate", "pass"]:
         same("the statuses are", ["0", "1", "2", "3", "4"], f"docs/cose-{name}.1", found(f"docs/cose-{name}.1", r"^\.B (\d)$"))
     same("the statuses are", ["0", "1", "2", "4"], "docs/cose-ask.1", found("docs/cose-ask.1", r"^\.B (\d)$"))
+
+
+def faults():
+    """The numbers of the faults of the streaming check."""
+    exported = [(re.sub(r"\B([A-Z])", r"_\1", name).upper(), number)
+                for name, number in found("crates/cose_gate_c/src/streaming.rt", r"^        StreamFault::(\w+)(?:\(_\))? => (\d),$")]
+    listed = re.search(r"^enum \{\n  COSE_GATE_NO_FAULT = 0,(.*?)^\};", text("include/cose_gate.h"), re.M | re.S)[1]
+    same("the faults are", exported, "include/cose_gate.h", re.findall(r"^  COSE_GATE_(\w+) = (\d)", listed, re.M))
 
 
 def limits():
@@ -66,28 +74,35 @@ def abi():
     """The header declares what a call returns, and its parameters, as the library exports them, in the same order."""
     header = "include/cose_gate.h"
     c_types = {"u32": "uint32_t", "usize": "size_t", "bool": "bool"}
-    answer = re.search(r"#\[repr\(C\)\].*?pub struct Answer \{(.*?)\n\}", text("crates/cose_gate_records/src/answer.rt"), re.S)[1]
-    exported = [(c_types[of], name) for name, of in re.findall(r"^    pub (\w+): (\w+),$", answer, re.M)]
-    declared = re.search(r"typedef struct cose_gate_answer \{(.*?)\n\} cose_gate_answer;", text(header), re.S)[1]
-    same("the fields of an answer are", exported, header, re.findall(r"^  (\w+) (\w+);", declared, re.M))
-    names = [name for _, name in exported]
+
+    def fields_of(exported, file, declared):
+        """The names of the fields of a struct, which the header declares with the same types."""
+        struct = re.search(rf"#\[repr\(C\)\].*?pub struct {exported} \{{(.*?)\n\}}", text(file), re.S)[1]
+        fields = [(c_types[of], name) for name, of in re.findall(r"^    pub (\w+): (\w+),$", struct, re.M)]
+        said = re.search(rf"typedef struct {declared} \{{(.*?)\n\}} {declared};", text(header), re.S)[1]
+        same(f"the fields of {declared} are", fields, header, re.findall(r"^  (\w+) (\w+);", said, re.M))
+        return [name for _, name in fields]
+
+    fields_of("StreamAnswer", "crates/cose_gate_c/src/streaming.rt", "cose_gate_stream_answer")
+    names = fields_of("Answer", "crates/cose_gate_records/src/answer.rt", "cose_gate_answer")
     rust = "examples/rust/src/main.rs"
     fields = re.search(r"^struct Answer \{(.*?)\n\}", text(rust), re.M | re.S)[1]
     same("the fields of an answer are", names, rust, re.findall(r"^    (\w+): ", fields, re.M))
     python = "examples/python/cose_gate.py"
     same("the fields of an answer are", names, python, re.findall(r'\("(\w+)",', found(python, r"_fields_ = (.*?)$")[0]))
-    calls = found("crates/cose_gate_c/src/lib.rt", r'extern "C" fn (\w+)\((.*?)\n\) -> Answer')
-    same("the calls are", [name for name, _ in calls], header, found(header, r"^cose_gate_answer (\w+)\("))
-    for name, parameters in calls:
-        wanted = []
-        for one, of in re.findall(r"(\w+): (&mut \[u8\]|&\[u8\]|usize|bool),", parameters):
-            if of.endswith("[u8]"):
-                wanted += [("uint8_t *" if "mut" in of else "const uint8_t *", one), ("size_t", f"{one}_length")]
-            else:
-                wanted.append((c_types[of], one))
-        call = found(header, rf"^cose_gate_answer {name}\((.*?)\);")[0]
-        same(f"the arguments of {name} are", wanted, header,
-             [(of.strip(), one) for of, one in re.findall(r"((?:const )?uint8_t \*|size_t |bool )(\w+)", call)])
+    for exported, declared in [("Answer", "cose_gate_answer"), ("StreamAnswer", "cose_gate_stream_answer")]:
+        calls = found("crates/cose_gate_c/src/lib.rt", rf'extern "C" fn (\w+)\(([^{{]*?)\n\) -> {exported}$')
+        same("the calls are", [name for name, _ in calls], header, found(header, rf"^{declared} (\w+)\("))
+        for name, parameters in calls:
+            wanted = []
+            for one, of in re.findall(r"(\w+): (&mut \[u8\]|&\[u8\]|usize|bool),", parameters):
+                if of.endswith("[u8]"):
+                    wanted += [("uint8_t *" if "mut" in of else "const uint8_t *", one), ("size_t", f"{one}_length")]
+                else:
+                    wanted.append((c_types[of], one))
+            call = found(header, rf"^{declared} {name}\((.*?)\);")[0]
+            same(f"the arguments of {name} are", wanted, header,
+                 [(of.strip(), one) for of, one in re.findall(r"((?:const )?uint8_t \*|size_t |bool )(\w+)", call)])
 
 
 def versions():
@@ -100,6 +115,7 @@ def versions():
 
 refusals()
 statuses()
+faults()
 limits()
 abi()
 versions()

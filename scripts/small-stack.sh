@@ -64,14 +64,14 @@ both() {
 
 # Whether the library's calls, as c-stack says, take at most so many KiB.
 calls() {
-  local limit=$1 check ask pass is bytes
+  local limit=$1 check ask pass stream is bytes
   [ -e "$folder/c-stack" ] || return
-  read -r check ask pass is < <("$folder/c-stack" "$keys" "$2" "$3" "$message")
+  read -r check ask pass stream is < <("$folder/c-stack" "$keys" "$2" "$3" "$message")
   case $is in *"$said"*) ;; *) fails "the library on $name: not $said" ;; esac
-  for bytes in "$check" "$ask" "$pass"; do
+  for bytes in "$check" "$ask" "$pass" "$stream"; do
     [ "${bytes:-8388609}" -le $((1024 * limit)) ] || fails "the library on $name takes ${bytes:-too many} bytes of stack, and not $limit KiB"
   done
-  line="$line | $((check / 1024)), $((ask / 1024)), $((pass / 1024))"
+  line="$line | $((check / 1024)), $((ask / 1024)), $((pass / 1024)), $((stream / 1024))"
 }
 
 for it in cose_gate_cli cose_show cose_ask_cli cose_pass_cli conformance_cose; do
@@ -89,7 +89,7 @@ fi
 keys=$top/examples/keys.cbor
 table=$folder/table
 echo "KiB of stack, by LLVM and by Rattle's own compiler
-| message | cose-gate | | cose-show | | cose-ask | | cose-pass | | conformance_cose | | C: check, ask, pass |
+| message | cose-gate | | cose-show | | cose-ask | | cose-pass | | conformance_cose | | C: check, ask, pass, stream |
 |---|---|---|---|---|---|---|---|---|---|---|---|" > "$table"
 limits=
 python3 "$top/scripts/worst-messages.py" "$folder/usual" > "$folder/said" || exit 2

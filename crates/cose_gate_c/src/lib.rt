@@ -1,10 +1,15 @@
 //! The gate for C, and for languages that call C: over buffers that the caller owns. Each function
-//! calls that of `cose_gate_records`. `include/cose_gate.h` declares them.
+//! calls that of `cose_gate_records`, the last one `streaming`. `include/cose_gate.h` declares them.
 #![tactic(auto)]
 
 ghost use Rattle.std.specs.Prelude.{◌≡◌};
+ghost use Rattle.cose_gate_c.specs.Streaming.{StreamChecks};
 ghost use Rattle.cose_gate_records.specs.Calls.{Asks, Checks, Passes, buffers};
 
+mod placing;
+mod streaming;
+
+use crate::streaming::{StreamAnswer, check_message};
 use cose_gate_records::{Answer, Choice, ask, check, pass};
 use std::alloc::Global;
 
@@ -78,4 +83,20 @@ pub extern "C" fn cose_gate_pass(
         strict,
     };
     pass(alloc, choice, accepted, aad, input, out, lines)
+}
+
+/// The streaming check of the COSE_Mac0 at the front of `message`, which is read in place, and where
+/// its payload is. What comes after it is not read.
+#[unsafe(no_mangle)]
+pub extern "C" fn cose_gate_stream_check(
+    alloc: Global,
+    keys: &[u8],
+    aad: &[u8],
+    message: &[u8],
+    nesting: usize,
+    layers: usize,
+) -> StreamAnswer
+    ensures { StreamChecks nesting layers keys.now aad.now message.now result }
+{
+    check_message(alloc, nesting, layers, keys, aad, message)
 }

@@ -1,0 +1,124 @@
+#!/usr/bin/env python3
+"""c-image.py IMAGE CHECK: the program of examples/c/image.c over images that it makes: good, with a byte changed, cut at every place, of
+other tags and shapes, and with bytes after the message. Then an image of 64 MiB, under the least limit of data (`ulimit -d`, which a mapped
+file doesn't count towards) in which a small image is checked; CHECK, the program of examples/c/check.c, which reads its input into memory, has
+to fail under that. Status 1 if something differs. It needs python3's standard library alone."""
+import hashlib
+import hmac
+import os
+import resource
+import subprocess
+import sys
+import tempfile
+
+image, check = sys.argv[1:]
+SECRET = bytes(range(32))
+PROTECTED = bytes.fromhex("a10105")  # { 1 alg: 5 HMAC 256/256 }
+KEYS = bytes.fromhex("81a2010420") + b"\x58\x20" + SECRET  # [{ 1 kty: 4 symmetric, -1 k: the secret }]
+OTHER = bytes.fromhex("81a2010420") + b"\x58\x20" + bytes(32)
+
+
+def head(major, number):
+    """The shortest head of a major type and a number (RFC 8949, section 3)."""
+    for width, code in ((1, 24), (2, 25), (4, 26), (8, 27)):
+        if number < 24:
+            return bytes([major << 5 | number])
+        if number < 256**width:
+            return bytes([major << 5 | code]) + number.to_bytes(width, "big")
+    raise ValueError(number)
+
+
+def string(value):
+    return head(2, len(value)) + value
+
+
+def mac0(payload, tag=17, carried=None):
+    """A message with its tag; `carried` is what is in the payload's place, if that isn't the payload."""
+    covered = head(4, 4) + head(3, 4) + b"MAC0" + string(PROTECTED) + string(b"") + string(payload)
+    mac = hmac.new(SECRET, covered, hashlib.sha256).digest()
+    return head(6, tag) + head(4, 4) + string(PROTECTED) + b"\xa0" + (carried or string(payload)) + string(mac)
+
+
+count = 0
+folder = tempfile.TemporaryDirectory()
+name = f"{folder.name}/image"
+keys = f"{folder.name}/keys"
+
+
+def write(path, content):
+    with open(path, "wb") as file:
+        file.write(content)
+
+
+def run(*words, data=None, standard_input=None):
+    limit = (lambda: resource.setrlimit(resource.RLIMIT_DATA, (data, data))) if data else None
+    return subprocess.run(words, stdin=standard_input, capture_output=True, text=True, preexec_fn=limit)
+
+
+def expect(status, said, content, of=KEYS):
+    """The program's status, and what it says of an image."""
+    global count
+    write(keys, of)
+    write(name, content)
+    ran = run(image, keys, name)
+    if (ran.returncode, ran.stdout) != (status, f"{name}: {said}\n"):
+        print(f"c-image.py: status {ran.returncode}, {ran.stdout!r}{ran.stderr!r}, and not {status}, {said!r}: {content[:64].hex()}", file=sys.stderr)
+        sys.exit(1)
+    count += 1
+
+
+for size in (0, 1, 23, 24, 4095, 4096, 4097, 60_000):
+    payload = bytes(at * 7 % 251 for at in range(size))
+    good = mac0(payload)
+    length, place = len(good), 7 + len(head(2, size))
+    said = f"genuine, {length} of {{}} bytes, payload of {size} at {place}"
+    expect(0, said.format(length), good)
+    expect(1, "not " + said.format(length), good, of=OTHER)
+    # after the message: nothing is read
+    for more in (b"\xff", bytes(5000), good):
+        expect(0, said.format(length + len(more)), good + more)
+    # a byte of the payload, of the tag
+    for at in {place + size // 2, length - 1} if size else {length - 1}:
+        changed = bytearray(good)
+        changed[at] ^= 1
+        expect(1, "not " + said.format(length), bytes(changed))
+    for at in {0, 1, 2, length // 2, length - 1}:
+        expect(4, "decode", good[:at])
+
+small = mac0(b"hello")
+HELLO = "genuine, {0} of {0} bytes, payload of 5 at {1}"
+# the same with wide heads, and an array that is open
+wide = b"\xd8\x11\x9f\x58\x03" + PROTECTED + b"\xb8\x00\x5b" + (5).to_bytes(8, "big") + b"hello" + small[-34:] + b"\xff"
+expect(0, HELLO.format(len(wide), 19), wide)
+for at in range(len(small)):
+    expect(4, "decode", small[:at])
+expect(4, "not tagged", small[1:])
+expect(4, "other tag", mac0(b"hello", tag=97))
+expect(4, "other tag", mac0(b"hello", tag=1))
+expect(4, "other tag", b"\xd9\xd9\xf7" + small)
+expect(1, "not " + HELLO.format(len(small), 8), mac0(b"hello", tag=18))
+expect(4, "shape", b"\xd1\x80")
+expect(4, "shape", mac0(b"hello", carried=b"\x18\x2a"))
+expect(4, "detached", mac0(b"hello", carried=b"\xf6"))
+expect(4, "unsized", mac0(b"hello", carried=b"\x5f\x45hello\xff"))
+expect(4, "decode", b"\xd1\x1c")
+expect(3, "no key set", small, of=b"\xa0")
+expect(3, "no key set", small, of=b"")
+
+large = 64 << 20
+write(keys, KEYS)
+write(name, small)
+least = 1 << 12
+while run(image, keys, name, data=least).returncode != 0:
+    least *= 2
+    if least >= large // 8:
+        sys.exit("c-image.py: a small image takes megabytes")
+write(name, mac0(bytes(1024) * (large >> 10)))
+ran = run(image, keys, name, data=least)
+length = os.path.getsize(name)
+if (ran.returncode, ran.stdout) != (0, f"{name}: genuine, {length} of {length} bytes, payload of {large} at {7 + len(head(2, large))}\n"):
+    sys.exit(f"c-image.py: an image of 64 MiB within {least} bytes: status {ran.returncode}, {ran.stdout!r}{ran.stderr!r}")
+with open(name, "rb") as file:
+    if run(check, keys, "", data=least, standard_input=file).returncode == 0:
+        sys.exit(f"c-image.py: the limit of {least} bytes holds nothing back")
+print(f"c-image.py: {count} images; one of 64 MiB is checked within {least >> 10} KiB of data, as a small one is")
