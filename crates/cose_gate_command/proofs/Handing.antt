@@ -1,5 +1,5 @@
 -- What becomes of the records of a run.
-use Rattle.std.proofs.Common.{◌≡◌, ℕ, ◌+◌, List, length, take, Option, None, Some, Bool, true, false, sym, ap, subst, ◌∙◌}
+use Rattle.std.proofs.Common.{◌≡◌, ℕ, ◌+◌, List, length, flat_map, Option, None, Some, Bool, true, false, refl, sym, ap, subst, ◌∙◌}
 use Rattle.std.proofs.Math.Seq.{take-length}
 use Rattle.std.proofs.lemmas.Bool.{true≢false}
 use Rattle.std.specs.Io.KnownBytes.{Appends, Keeps}
@@ -7,7 +7,11 @@ use Rattle.std.specs.Prelude.{Result, Ok, Err, is_err, MatchOption}
 use Rattle.ciborium_ll.specs.Device.{write_failures}
 use denote.Bor.{Bor}
 use Rattle.ciborium_ll.specs.declared.write.Write.{Ghosts as Writes}
+use Rattle.cose_gate_core.specs.Questions.{Question}
+use Rattle.cose_gate_records.specs.Records.{record_of}
 use Rattle.cose_gate_command.specs.Asking.{Hands, Sent}
+use Rattle.cose_gate_command.specs.Lines.{told_as}
+use Rattle.cose_gate_command.specs.Read.{IsHanded}
 use Rattle.cose_gate_command.specs.declared.not_run.NotRun.{NotRun}
 use Rattle.cose_gate_command.specs.declared.not_run.NotRun.TheVariants.{Memory, Output}
 
@@ -21,12 +25,18 @@ with_status : {W F : Type 0} (w : Writes W F) (out out' : W) (s : ℕ) (written 
 with_status w out out' s (Ok u) text h = h
 with_status w out out' s (Err why) text h = h
 
-pub handed : {W F : Type 0} (w : Writes W F) (out out' : W) (s : ℕ) (records : Option (Bor (List ℕ))) (written : Result (Unit {0}) NotRun) (lines : Bool) (told text : List ℕ)
-    → MatchOption records ((written ≡ Err Memory) × (out' ≡ out)) (λ r. lines ≡ false → Hands w out out' written r.now)
-    → MatchOption records (Unit {0}) (λ r. r.now ≡ told) → told ≡ text → lines ≡ false → Hands w out out' (or_status s written) text
-handed w out out' s None written lines told text h e f quiet = subst (λ (z : Result (Unit {0}) NotRun). Hands w out out' (or_status s z) text) (sym h.0) h.1
-handed w out out' s (Some r) written lines told text h e f quiet =
-    with_status w out out' s written text (subst (λ (z : List ℕ). Hands w out out' written z) (e ∙ f) (h quiet))
+-- the records that were told are handed out as they are, or as lines
+told_of : (lines : Bool) (records : List ℕ) (qs : List Question) → records ≡ flat_map record_of qs → IsHanded lines records (flat_map (told_as lines) qs)
+told_of false records qs e = sym e
+told_of true records qs e = (qs, e, refl)
+
+pub handed : {W F : Type 0} (w : Writes W F) (out out' : W) (s : ℕ) (records : Option (Bor (List ℕ))) (written : Result (Unit {0}) NotRun) (lines : Bool) (told : List ℕ) (qs : List Question)
+    → MatchOption records ((written ≡ Err Memory) × (out' ≡ out)) (λ r. (text : List ℕ) → IsHanded lines r.now text → Hands w out out' written text)
+    → MatchOption records (Unit {0}) (λ r. r.now ≡ told) → told ≡ flat_map record_of qs → Hands w out out' (or_status s written) (flat_map (told_as lines) qs)
+handed w out out' s None written lines told qs h e f =
+    subst (λ (z : Result (Unit {0}) NotRun). Hands w out out' (or_status s z) (flat_map (told_as lines) qs)) (sym h.0) h.1
+handed w out out' s (Some r) written lines told qs h e f =
+    with_status w out out' s written (flat_map (told_as lines) qs) (h (flat_map (told_as lines) qs) (told_of lines r.now qs (e ∙ f)))
 
 -- a text that wasn't written whole
 pub not_sent : {W F T E : Type 0} (w : Writes W F) (out out' : W) (r : Result T E) (text : List ℕ) → is_err r ≡ true → Sent w out out' r text

@@ -1,6 +1,10 @@
 pub mod Endings
 pub mod Ends
 pub mod Handing
+pub mod HexDigits
+pub mod Keys
 pub mod NotRuns
 pub mod Reasons
+pub mod RecordLines
 pub mod SaidLines
+pub mod Sending

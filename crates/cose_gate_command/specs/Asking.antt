@@ -13,9 +13,9 @@ use Rattle.cose_gate_program.specs.Telling.{RanTold}
 use Rattle.cose_gate_program.specs.Writing.{Wrote}
 use Rattle.cose_gate_program.specs.declared.telling.Notice.{Notice}
 use Rattle.cose_gate_program.specs.declared.telling.Notice.TheVariants as notice
-use Rattle.cose_gate_records.specs.Records.{record_of}
 use Rattle.cose_gate_command.specs.Arguments.{AskArguments}
 use Rattle.cose_gate_command.specs.Ends.{bounds_by}
+use Rattle.cose_gate_command.specs.Lines.{told_as}
 use Rattle.cose_gate_command.specs.declared.not_run.NotRun.{NotRun}
 use Rattle.cose_gate_command.specs.declared.not_run.NotRun.TheVariants as unrun
 
@@ -88,12 +88,13 @@ IsStatus (Ok s) status = s ≡ status
 IsStatus (Err why) status = Unit {0}
 
 -- the gate ran over the input, with a judge that says yes to each question: the records of the
--- questions that were asked are handed out, after the lines of the items and before the last one
+-- questions that were asked, or their lines, are handed out, after the lines of the items and before
+-- the last one
 abbrev pub Asked : {W F E G : Type 0} (w : Writes W F) (e : Writes E G) → Bounds → Bool → List ℕ
     → Devices → Devices → W → W → E → E → Result ℕ NotRun → Type 0
 Asked w e limits lines aad old new out out' err err' result = (status : ℕ)
     × IsStatus result status × RanTold limits (λ _. true) aad old new status
-    (λ asked. lines ≡ false → Hands w out out' result (flat_map record_of asked))
+    (λ asked. Hands w out out' result (flat_map (told_as lines) asked))
     (λ notices. Wrote e err err' (lines_if result notices))
 
 -- how cose-ask ends with these arguments: that, or it isn't run, and nothing was read, written or

@@ -2,7 +2,9 @@ pub mod Arguments
 pub mod Asking
 pub mod Ends
 pub mod KeyFiles
+pub mod Lines
 pub mod Options
 pub mod Passing
+pub mod Read
 pub mod Said
 pub mod Waiting
