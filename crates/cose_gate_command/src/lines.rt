@@ -19,7 +19,7 @@ use cose_gate_core::MessageKind;
 ///
 /// # Errors
 /// Those of the writer.
-pub fn write_lines<W: Write>(records: &[u8], out: &mut W) -> Result<(), W::Error>
+pub(crate) fn write_lines<W: Write>(records: &[u8], out: &mut W) -> Result<(), W::Error>
     ensures sent { (lines : List ℕ) → AreLines records.now lines
         → Sent W.Write out.old out.new result lines }
     ensures lent { W.handle out.new ≡ W.handle out.old }

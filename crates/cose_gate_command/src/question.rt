@@ -10,7 +10,7 @@ use cose_gate_core::MessageKind;
 
 /// A question, as its record shows it.
 #[derive(Debug, Clone, Copy, PartialEq, Eq)]
-pub struct Question<'a> {
+pub(crate) struct Question<'a> {
     /// The kind of the message.
     pub kind: MessageKind,
     /// The protected header as received.
@@ -62,7 +62,7 @@ pub(crate) fn first_question(records: &[u8]) -> Option<(Question<'_>, &[u8])>
 }
 
 /// The question of a whole record; `None` if the bytes are not exactly one record.
-pub fn read_question(record: &[u8]) -> Option<Question<'_>>
+pub(crate) fn read_question(record: &[u8]) -> Option<Question<'_>>
     ensures { MatchOption result
         ((kind : MessageKind) (texts : List (List ℕ)) → length texts ≡ 7
         → record.now ≡ framed (key_with kind texts) → ⊥)
