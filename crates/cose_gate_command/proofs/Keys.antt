@@ -9,6 +9,7 @@ use Rattle.cose_gate_core.specs.Questions.{Question, number_of}
 use Rattle.cose_gate_records.specs.Records.{key_of, texts_of}
 use Rattle.cose_gate_core.specs.declared.about.MessageKind.{MessageKind}
 use Rattle.cose_gate_core.specs.declared.about.MessageKind.TheVariants as kind
+use Rattle.cose_gate_core.proofs.TagNumbers.{same_kind}
 use Rattle.cose_gate_records.proofs.Frames.{length-eight, same_frames, same_numbered, same_pieces, length-framed, assoc_six}
 
 -- fewer than eight bytes begin with no number
@@ -104,31 +105,13 @@ text_then bytes piece more texts e f = e ∙ ap (λ (z : List ℕ). framed piece
 pub key_is : (key rest : List ℕ) (n : ℕ) (k : MessageKind) (texts : List (List ℕ)) → key ≡ eight n ++ rest → number_of k ≡ n → rest ≡ flat_map framed texts → key ≡ key_with k texts
 key_is key rest n k texts is e f = is ∙ (ap (λ (m : ℕ). eight m ++ rest) (sym e) ∙ ap (λ (z : List ℕ). eight (number_of k) ++ z) f)
 
-same_kinds : (j k : MessageKind) → number_of j ≡ number_of k → j ≡ k
-same_kinds kind.Sign1 kind.Sign1 e = refl
-same_kinds kind.Sign1 kind.Mac0 e = absurd (omega (arith, e))
-same_kinds kind.Sign1 kind.Sign e = absurd (omega (arith, e))
-same_kinds kind.Sign1 kind.Mac e = absurd (omega (arith, e))
-same_kinds kind.Mac0 kind.Sign1 e = absurd (omega (arith, e))
-same_kinds kind.Mac0 kind.Mac0 e = refl
-same_kinds kind.Mac0 kind.Sign e = absurd (omega (arith, e))
-same_kinds kind.Mac0 kind.Mac e = absurd (omega (arith, e))
-same_kinds kind.Sign kind.Sign1 e = absurd (omega (arith, e))
-same_kinds kind.Sign kind.Mac0 e = absurd (omega (arith, e))
-same_kinds kind.Sign kind.Sign e = refl
-same_kinds kind.Sign kind.Mac e = absurd (omega (arith, e))
-same_kinds kind.Mac kind.Sign1 e = absurd (omega (arith, e))
-same_kinds kind.Mac kind.Mac0 e = absurd (omega (arith, e))
-same_kinds kind.Mac kind.Sign e = absurd (omega (arith, e))
-same_kinds kind.Mac kind.Mac e = refl
-
 -- a key is of one kind and of one list of seven texts
 pub same_keys : (j k : MessageKind) (texts others : List (List ℕ)) → length texts ≡ 7 → length others ≡ 7 → length (key_with j texts) < 2 ^ 64
     → key_with j texts ≡ key_with k others → (j ≡ k) × (texts ≡ others)
 same_keys j k texts others a b h e =
     let w = same_numbered (number_of j) (number_of k) (flat_map framed texts) (flat_map framed others) (kind_below j) (kind_below k) e in
     let l = length-append (eight (number_of j)) (flat_map framed texts) in
-    (same_kinds j k w.0, same_pieces texts others (a ∙ sym b) (omega (arith, l, h)) w.1)
+    (same_kind j k w.0, same_pieces texts others (a ∙ sym b) (omega (arith, l, h)) w.1)
 
 -- the key of a question, as its kind and its texts
 pub key_in : (q : Question) → key_of q ≡ key_with q.subject.kind (texts_in q)
