@@ -36,10 +36,10 @@ rows() {
 2|/dev/null|usage: cose-gate [--strict] [--verbose] [--quiet] KEYS [AADHEX] < INPUT > PASSED|cose-gate keys.cbor $'\xff' < one.cbor
 2|/dev/null|usage: cose-gate [--strict] [--verbose] [--quiet] KEYS [AADHEX] < INPUT > PASSED|../cose-gate --strikt keys.cbor
 2|/dev/null|usage: cose-gate [--strict] [--verbose] [--quiet] KEYS [AADHEX] < INPUT > PASSED|cose-gate keys.cbor --strikt < one.cbor
-2|/dev/null|usage: cose-ask [--strict] [--lines] [AADHEX]|cose-ask --strikt < one.cbor
-2|/dev/null|usage: cose-ask [--strict] [--lines] [AADHEX]|cose-ask 01 02 < one.cbor
-2|/dev/null|usage: cose-ask [--strict] [--lines] [AADHEX]|cose-ask $'\xff' < one.cbor
-2|/dev/null|usage: cose-ask [--strict] [--lines] [AADHEX]|../cose-ask --strikt
+2|/dev/null|usage: cose-ask [--strict] [--lines] [--fields] [AADHEX]|cose-ask --strikt < one.cbor
+2|/dev/null|usage: cose-ask [--strict] [--lines] [--fields] [AADHEX]|cose-ask 01 02 < one.cbor
+2|/dev/null|usage: cose-ask [--strict] [--lines] [--fields] [AADHEX]|cose-ask $'\xff' < one.cbor
+2|/dev/null|usage: cose-ask [--strict] [--lines] [--fields] [AADHEX]|../cose-ask --strikt
 2|/dev/null|usage: cose-pass [--strict] ACCEPTED [AADHEX]|cose-pass
 2|/dev/null|usage: cose-pass [--strict] ACCEPTED [AADHEX]|cose-pass --strikt /dev/null < one.cbor
 2|/dev/null|usage: cose-pass [--strict] ACCEPTED [AADHEX]|cose-pass /dev/null $'\xff' < one.cbor

@@ -1,6 +1,8 @@
 pub mod Arguments
 pub mod Asking
 pub mod Ends
+pub mod Fields
+pub mod Hex
 pub mod KeyFiles
 pub mod Lines
 pub mod Options

@@ -1,11 +1,13 @@
 //! Questions as lines of text.
 ghost use Rattle.std.specs.Prelude.{◌≡◌, ◌<◌, ◌∷◌, ◌++◌, [], ℕ, List, flat_map, slice_index};
-ghost use Rattle.std.specs.Prelude.{MatchOption, Err};
+ghost use Rattle.std.specs.Prelude.{MatchOption, Err, map, string_bytes};
 ghost use Rattle.hex.specs.Hex.{encode_lower, lower_digits};
 ghost use Rattle.cose_gate_command.specs.Asking.{Hands, Sent};
 ghost use Rattle.cose_gate_command.specs.Lines as spec;
-ghost use Rattle.cose_gate_command.specs.Lines.{hex_field, line_by, next_field};
-ghost use Rattle.cose_gate_command.specs.Read.{AreLines, IsHanded, texts_read};
+ghost use Rattle.cose_gate_command.specs.Hex.{hex_field};
+ghost use Rattle.cose_gate_command.specs.Lines.{line_by, next_field};
+ghost use Rattle.cose_gate_command.specs.Read.{AreFielded, AreLines, IsHanded, IsWritten};
+ghost use Rattle.cose_gate_command.specs.Read.{texts_read};
 ghost use Rattle.cose_gate_command.specs.declared.not_run.NotRun.TheVariants.{Memory};
 
 use crate::not_run::NotRun;
@@ -13,45 +15,37 @@ use crate::question::{Question, first_question};
 use ciborium_ll::Write;
 use cose_gate_core::MessageKind;
 
-/// Writes a line for each record: the kind of the message by name, the seven texts of the record,
-/// and the record, in hex, with a space between two. An empty text is `-`. It stops at bytes that
-/// are not a record.
-///
-/// # Errors
-/// Those of the writer.
-pub(crate) fn write_lines<W: Write>(records: &[u8], out: &mut W) -> Result<(), W::Error>
-    ensures sent { (lines : List ℕ) → AreLines records.now lines
-        → Sent W.Write out.old out.new result lines }
-    ensures lent { W.handle out.new ≡ W.handle out.old }
-{
-    let mut rest = records;
-    while let Some((question, more)) = first_question(rest) {
-        write_line(&question, out)?;
-        rest = more;
-    }
-    Ok(())
+/// How questions are written.
+#[derive(Debug, Clone, Copy, PartialEq, Eq)]
+pub(crate) enum Layout<'a> {
+    /// Their records.
+    Records,
+    /// A line for each.
+    Lines,
+    /// A line for each, with these fields after its kind.
+    Fields(&'a [String]),
 }
 
-/// Writes the records, as lines if that is asked, and flushes the writer. `None` are records that
-/// are lost, since it was out of memory for one.
+/// Writes the records in this layout, and flushes the writer. `None` are records that are lost,
+/// since it was out of memory for one.
 ///
 /// # Errors
 /// `Memory` and `Output`.
 pub(crate) fn write_questions<W: Write>(
-    as_lines: bool,
+    layout: Layout,
     records: Option<&[u8]>,
     out: &mut W,
 ) -> Result<(), NotRun>
     ensures hands { MatchOption records.entry
         ((result ≡ Err Memory) × (out.new ≡ out.old))
-        (λ r. (told : List ℕ) → IsHanded as_lines r.now told
+        (λ r. (told : List ℕ) → IsHanded layout.entry r.now told
         → Hands W.Write out.old out.new result told) }
     ensures lent { W.handle out.new ≡ W.handle out.old }
 {
     let Some(records) = records else {
         return Err(NotRun::Memory);
     };
-    if write_as(as_lines, records, out).is_err() {
+    if write_as(layout, records, out).is_err() {
         return Err(NotRun::Output);
     }
     if out.flush().is_err() {
@@ -60,26 +54,93 @@ pub(crate) fn write_questions<W: Write>(
     Ok(())
 }
 
-/// Writes the records, as lines if that is asked.
-fn write_as<W: Write>(as_lines: bool, records: &[u8], out: &mut W) -> Result<(), W::Error>
-    ensures sent { (told : List ℕ) → IsHanded as_lines records.now told
-        → Sent W.Write out.old out.new result told }
+/// Writes the records or their lines, and flushes the writer, as `write_questions` does.
+///
+/// # Errors
+/// Those of `write_questions`.
+pub(crate) fn write_plainly<W: Write>(
+    as_lines: bool,
+    records: Option<&[u8]>,
+    out: &mut W,
+) -> Result<(), NotRun>
+    ensures hands { MatchOption records.entry
+        ((result ≡ Err Memory) × (out.new ≡ out.old))
+        (λ r. (told : List ℕ) → IsWritten as_lines r.now told
+        → Hands W.Write out.old out.new result told) }
     ensures lent { W.handle out.new ≡ W.handle out.old }
 {
     if as_lines {
-        return write_lines(records, out);
+        return write_questions(Layout::Lines, records, out);
     }
-    out.write_all(records)
+    write_questions(Layout::Records, records, out)
 }
 
-/// Writes the line of a question.
-fn write_line<W: Write>(question: &Question, out: &mut W) -> Result<(), W::Error>
-    ensures sent { Sent W.Write out.old out.new result
-        (line_by question.now.kind (texts_read question.now ++ question.now.record.now ∷ [])) }
+/// Writes the records in this layout.
+fn write_as<W: Write>(layout: Layout, records: &[u8], out: &mut W) -> Result<(), W::Error>
+    ensures sent { (told : List ℕ) → IsHanded layout.entry records.now told
+        → Sent W.Write out.old out.new result told }
+    ensures lent { W.handle out.new ≡ W.handle out.old }
+{
+    match layout {
+        Layout::Records => out.write_all(records),
+        Layout::Lines => write_lines(records, out),
+        Layout::Fields(fields) => write_fielded_lines(records, fields, out),
+    }
+}
+
+/// Writes a line for each record: the kind of the message by name, the seven texts of the record,
+/// and the record, in hex, with a space between two. An empty text is `-`. It stops at bytes that
+/// are not a record.
+///
+/// # Errors
+/// Those of the writer.
+fn write_lines<W: Write>(records: &[u8], out: &mut W) -> Result<(), W::Error>
+    ensures sent { (lines : List ℕ) → AreLines records.now lines
+        → Sent W.Write out.old out.new result lines }
+    ensures lent { W.handle out.new ≡ W.handle out.old }
+{
+    let mut rest = records;
+    while let Some((question, more)) = first_question(rest) {
+        write_line(&question, b"", out)?;
+        rest = more;
+    }
+    Ok(())
+}
+
+/// The same with these fields after the kind, as many lines as there are fields.
+///
+/// # Errors
+/// Those of the writer.
+fn write_fielded_lines<W: Write>(
+    records: &[u8],
+    fields: &[String],
+    out: &mut W,
+) -> Result<(), W::Error>
+    ensures sent { (lines : List ℕ)
+        → AreFielded (map string_bytes fields.now) records.now lines
+        → Sent W.Write out.old out.new result lines }
+    ensures lent { W.handle out.new ≡ W.handle out.old }
+{
+    let mut rest = records;
+    for field in fields {
+        let Some((question, more)) = first_question(rest) else {
+            return Ok(());
+        };
+        write_line(&question, field.as_bytes(), out)?;
+        rest = more;
+    }
+    Ok(())
+}
+
+/// Writes the line of a question with these fields.
+fn write_line<W: Write>(question: &Question, fields: &[u8], out: &mut W) -> Result<(), W::Error>
+    ensures sent { Sent W.Write out.old out.new result (line_by question.now.kind fields.now
+        (texts_read question.now ++ question.now.record.now ∷ [])) }
     ensures lent { W.handle out.new ≡ W.handle out.old }
 {
     out.write_all(name_of(question.kind).as_bytes())?;
-    write_fields(
+    out.write_all(fields)?;
+    write_texts(
         &[
             question.protected,
             question.unprotected,
@@ -96,7 +157,7 @@ fn write_line<W: Write>(question: &Question, out: &mut W) -> Result<(), W::Error
 }
 
 /// Writes these texts, each with a space before it.
-fn write_fields<W: Write>(texts: &[&[u8]], out: &mut W) -> Result<(), W::Error>
+fn write_texts<W: Write>(texts: &[&[u8]], out: &mut W) -> Result<(), W::Error>
     ensures sent { Sent W.Write out.old out.new result
         (flat_map (λ t. next_field t.now) texts.now) }
     ensures lent { W.handle out.new ≡ W.handle out.old }
@@ -175,7 +236,7 @@ mod tests {
             records.extend_from_slice(&record).expect(&rt, "memory");
         }
         let mut out = Mem::new(Vec::new(alloc));
-        assert!(rt; write_questions(true, Some(&records), &mut out).is_ok());
+        assert!(rt; write_questions(Layout::Lines, Some(&records), &mut out).is_ok());
         let lines = out.as_written().iter().filter(|byte| **byte == b'\n');
         assert_eq!(rt; lines.count(), 100);
     }
@@ -183,7 +244,7 @@ mod tests {
     #[test]
     fn lost_records_are_told(rt: HostRuntime) {
         let mut out = Mem::new(Vec::new(rt.alloc()));
-        let written = write_questions(false, None, &mut out);
+        let written = write_questions(Layout::Records, None, &mut out);
         assert_eq!(rt; written, Err(NotRun::Memory));
     }
 }

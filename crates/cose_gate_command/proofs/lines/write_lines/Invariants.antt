@@ -8,7 +8,7 @@ abbrev pub invariant-loop-question : goal.invariant-loop-question
 invariant-loop-question g l = record {
   kept : g.W.Write.handle l.out ≡ g.W.Write.handle l.fn.out;
   few : length l.rest ≤ length l.fn.records;
-  sent : (lines : List ℕ) → AreLines l.fn.records lines → Partly g.W.Write l.fn.out l.out l.rest lines;
+  sent : (lines : List ℕ) → AreLines l.fn.records lines → Partly g.W.Write l.fn.out l.out (AreLines l.rest) lines;
 }
 
 abbrev pub decreases-loop-question : goal.decreases-loop-question

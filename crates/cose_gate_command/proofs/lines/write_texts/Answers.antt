@@ -1,7 +1,7 @@
 use Rattle.std.proofs.Common.{[], arith}
 use Rattle.cose_gate_command.specs.Lines.{next_field}
 use Rattle.cose_gate_command.proofs.Sending as sending
-use Rattle.cose_gate_command.proofs.lines.write_fields.Goals as goal
+use Rattle.cose_gate_command.proofs.lines.write_texts.Goals as goal
 
 pub returns-in_err-write_all-clause-sent : goal.returns-in_err-write_all-clause-sent
 returns-in_err-write_all-clause-sent g c =

@@ -1,7 +1,7 @@
 use Rattle.std.proofs.Common.{◌≡◌, take, flat_map}
 use Rattle.cose_gate_command.specs.Lines.{next_field}
 use Rattle.cose_gate_command.proofs.Sending.{Wrote}
-use Rattle.cose_gate_command.proofs.lines.write_fields.Given as goal
+use Rattle.cose_gate_command.proofs.lines.write_texts.Given as goal
 
 -- the fields of the texts so far
 abbrev pub invariant-loop-text : goal.invariant-loop-text
