@@ -32,8 +32,7 @@ AADHEX: the external data in hex, empty if it is left out.
             be given to cose-pass, as the last field.
   --fields  lines that have three fields more, after KIND: ALG=-7, the number of
             the protected algorithm; KID=, the key id in hex; CRIT=unknown if a
-            critical label isn't 1, 2 or 4. An algorithm with a name is ALG=text.
-            - is for none.
+            critical label isn't 1, 2 or 4. ALG=tstr is no number, - is for none.
   --strict  refuse messages that are not in canonical encoding
 Standard error has a line for each item, as if every signature were good.
 Status 0: no item was refused. 1: some were. 2: wrong arguments, or AADHEX is not

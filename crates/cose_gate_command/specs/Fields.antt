@@ -7,12 +7,12 @@ use Rattle.cose_gate_core.specs.Questions.{Subject}
 use Rattle.cose_gate_records.specs.KeyHeaders.{header_in, key_protected, key_id_of, has_known_crit}
 use Rattle.cose_gate_command.specs.Hex.{hex_field}
 
--- the number of an algorithm; - if there is none, and text if it is named by a text string
+-- the number of an algorithm; - if there is none, and tstr if it is named by a text string
 abbrev pub algorithm_field : Option Named → List ℕ
 algorithm_field None = codes "-"
 algorithm_field (Some (private_use i)) = signed_decimal i
 algorithm_field (Some (assigned i)) = signed_decimal i
-algorithm_field (Some (named b)) = codes "text"
+algorithm_field (Some (named b)) = codes "tstr"
 
 abbrev pub algorithm_of : ProtectedFields → Option Named
 algorithm_of p = (plain_part (header_in p)).alg

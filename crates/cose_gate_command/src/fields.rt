@@ -18,7 +18,7 @@ use std::alloc::{AllocError, Global};
 /// Three fields, each with a space before it: `ALG=` and the number of the algorithm in the
 /// protected header of the signer, if there is one, else of the message; `KID=` and the key id in
 /// hex; `CRIT=-`, or `CRIT=unknown` if a critical label isn't 1, 2 or 4. `-` is for none, and the
-/// algorithm `text` is named by a text string.
+/// algorithm `tstr` is named by a text string.
 pub(crate) fn key_fields(alloc: Global, about: &About) -> Result<String, AllocError>
     ensures { IfOk result (λ fields.
         string_bytes fields ≡ spec.key_fields (subject_of about.now)) }
@@ -62,7 +62,7 @@ fn protected_text(alloc: Global, protected: &ProtectedHeader) -> Result<String, 
     algorithm_text(alloc, &protected.header.alg)
 }
 
-/// The number of an algorithm; `-` if there is none, and `text` if it is named by a text string.
+/// The number of an algorithm; `-` if there is none, and `tstr` if it is named by a text string.
 fn algorithm_text(alloc: Global, alg: &Option<Algorithm>) -> Result<String, AllocError>
     ensures { IfOk result (λ field. string_bytes field ≡ algorithm_field
         (option_map (named_view algorithm_number) alg.now)) }
@@ -70,7 +70,7 @@ fn algorithm_text(alloc: Global, alg: &Option<Algorithm>) -> Result<String, Allo
     match alg {
         Some(RegisteredLabelWithPrivate::Assigned(entry)) => entry.to_i64().to_string(alloc),
         Some(RegisteredLabelWithPrivate::PrivateUse(number)) => number.to_string(alloc),
-        Some(RegisteredLabelWithPrivate::Text(_)) => "text".to_string(alloc),
+        Some(RegisteredLabelWithPrivate::Text(_)) => "tstr".to_string(alloc),
         None => "-".to_string(alloc),
     }
 }
