@@ -85,6 +85,7 @@ rows() {
 1||passed 4, refused 5|cose-ask --strict --lines 01 < mixed.cbor > $T/lines
 1||passed 6, refused 3|cose-pass $T/records 01 < mixed.cbor > $T/passed
 1|$T/passed|passed 6, refused 3|cose-pass <(cose-ask --lines 01 < mixed.cbor 2> /dev/null) 01 < mixed.cbor
+1|$T/passed|passed 6, refused 3|cose-pass <(cose-ask --fields 01 < mixed.cbor 2> /dev/null) 01 < mixed.cbor
 1||passed 4, refused 5|cose-pass --strict $T/records 01 < mixed.cbor > $T/passed.strict
 1|$T/passed.strict|passed 4, refused 5|cose-pass --strict $T/lines 01 < mixed.cbor
 1|/dev/null|passed 0, refused 1|cose-pass $T/records < one.cbor
