@@ -1,5 +1,5 @@
 -- The lines of text that `cose-ask --lines` and `cose-ask --fields` write.
-use Rattle.std.specs.Prelude.{ℕ, List, [], ◌∷◌, ◌++◌, flat_map, codes, Bool, true, false, if◌then◌else◌}
+use Rattle.std.specs.Prelude.{ℕ, List, [], ◌∷◌, ◌++◌, flat_map, codes, Bool, if◌then◌else◌}
 use Rattle.cose_gate_core.specs.Questions.{Question}
 use Rattle.cose_gate_core.specs.declared.about.MessageKind.{MessageKind}
 use Rattle.cose_gate_core.specs.declared.about.MessageKind.TheVariants as kind

@@ -1,4 +1,4 @@
-use Rattle.std.proofs.Common.{[], ◌∷◌, ◌∙◌, ◌+◌, List, ℕ, drop, map, refl, sym, ap, subst, arith}
+use Rattle.std.proofs.Common.{◌∷◌, ◌∙◌, ◌+◌, List, ℕ, drop, map, refl, sym, ap, subst, arith}
 use Rattle.std.specs.Prelude.{string_bytes}
 use Rattle.std.proofs.lemmas.List.{drop_all}
 use Rattle.cose_gate_core.proofs.InOrder.{rest_step}

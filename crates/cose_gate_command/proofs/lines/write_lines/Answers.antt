@@ -1,4 +1,4 @@
-use Rattle.std.proofs.Common.{[], refl, ◌∙◌, arith}
+use Rattle.std.proofs.Common.{refl, ◌∙◌, arith}
 use Rattle.cose_gate_command.specs.Read.{AreLines, texts_read}
 use Rattle.cose_gate_command.proofs.RecordLines as lines
 use Rattle.cose_gate_command.proofs.Sending.{sent_torn}
