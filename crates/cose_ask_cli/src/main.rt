@@ -1,6 +1,6 @@
 //! `cose-ask [--strict] [--lines] [--fields] [AADHEX]`: reads a CBOR sequence from standard input,
-//! and writes the records of all questions that the gate asks about it to standard output. AADHEX is
-//! the external data in hex.
+//! and writes the records of all questions that the gate asks about it to standard output. AADHEX
+//! is the external data in hex.
 #![tactic(auto)]
 
 use ciborium_ll::Io;

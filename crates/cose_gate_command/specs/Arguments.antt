@@ -72,7 +72,8 @@ of_aad s l f (aad ∷ more ∷ ws) = None
 abbrev pub ask_arguments : List (List ℕ) → Option AskArguments
 ask_arguments ws =
     if are_known asks ws
-    then of_aad (has (codes "--strict") ws) (has (codes "--lines") ws) (has (codes "--fields") ws)
+    then of_aad (has (codes "--strict") ws) (has (codes "--lines") ws)
+    (has (codes "--fields") ws)
     (filter (λ w. not (is_option w)) ws)
     else None
 

@@ -94,8 +94,8 @@ IsStatus (Ok s) status = s ≡ status
 IsStatus (Err why) status = Unit {0}
 
 -- the gate ran over the input, with a judge that says yes to each question: the records of the
--- questions that were asked, or their lines, are handed out, after the lines of the items and before
--- the last one
+-- questions that were asked, or their lines, are handed out, after the lines of the items and
+-- before the last one
 abbrev pub Asked : {W F E G : Type 0} (w : Writes W F) (e : Writes E G) → Bounds → Form → List ℕ
     → Devices → Devices → W → W → E → E → Result ℕ NotRun → Type 0
 Asked w e limits form aad old new out out' err err' result = (status : ℕ)
