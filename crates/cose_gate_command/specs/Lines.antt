@@ -32,15 +32,15 @@ texts_in q =
     ∷ about.recipients ∷ q.covered ∷ q.signature ∷ []
 
 -- the line of a question with these fields: its kind, the fields, its seven texts and its record
-abbrev pub line_with : List ℕ → Question → List ℕ
-line_with fields q = line_by q.subject.kind fields (texts_in q ++ record_of q ∷ [])
+abbrev pub full_line : List ℕ → Question → List ℕ
+full_line fields q = line_by q.subject.kind fields (texts_in q ++ record_of q ∷ [])
 
 -- the line of a question, and the same with what its headers say of its key
 abbrev pub question_line : Question → List ℕ
-question_line q = line_with [] q
+question_line q = full_line [] q
 
 abbrev pub fielded_line : Question → List ℕ
-fielded_line q = line_with (key_fields q.subject) q
+fielded_line q = full_line (key_fields q.subject) q
 
 -- what is written of a question
 abbrev pub told_as : Form → Question → List ℕ
