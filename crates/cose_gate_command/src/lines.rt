@@ -16,7 +16,7 @@ use ciborium_ll::Write;
 use cose_gate_core::MessageKind;
 
 /// How questions are written.
-#[derive(Debug, Clone, Copy, PartialEq, Eq)]
+#[derive(Clone, Copy)]
 pub(crate) enum Layout<'a> {
     /// Their records.
     Records,
