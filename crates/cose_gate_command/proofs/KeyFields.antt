@@ -1,8 +1,8 @@
 -- The algorithm that a protected header names.
-use Rattle.std.proofs.Common.{◌≡◌, map, option_map, sym, ap, ◌∙◌}
+use Rattle.std.proofs.Common.{◌≡◌, option_map, sym, ap, ◌∙◌}
 use Rattle.cose_iana.specs.Algorithms.{algorithm_number}
 use Rattle.coset_headers.proofs.Alike.{header_is, protected_is}
-use Rattle.coset_headers.specs.Fields.{plain_part, protected}
+use Rattle.coset_headers.specs.Fields.{protected}
 use Rattle.coset_headers.specs.View.{protected_view}
 use Rattle.coset_headers.specs.declared.header.Header.{out-Header}
 use Rattle.coset_headers.specs.declared.header.ProtectedHeader.{ProtectedHeader, out-ProtectedHeader}

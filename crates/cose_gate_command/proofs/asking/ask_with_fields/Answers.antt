@@ -1,4 +1,4 @@
-use Rattle.std.proofs.Common.{◌≡◌, refl, List, ℕ, [], ◌∷◌, ◌++◌, flat_map, map, sym, ap, subst, ◌∙◌}
+use Rattle.std.proofs.Common.{◌≡◌, refl, ℕ, [], ◌∷◌, ◌++◌, flat_map, map, sym, ap, subst, ◌∙◌}
 use Rattle.std.specs.Prelude.{Result, is_ok, string_bytes}
 use Rattle.cose_gate_program.proofs.Tellings.{ran_as}
 use Rattle.cose_gate_records.specs.Kept.{told_by}
