@@ -36,10 +36,10 @@ rows() {
 2|/dev/null|usage: cose-gate [--strict] [--verbose] [--quiet] KEYS [AADHEX] < INPUT > PASSED|cose-gate keys.cbor $'\xff' < one.cbor
 2|/dev/null|usage: cose-gate [--strict] [--verbose] [--quiet] KEYS [AADHEX] < INPUT > PASSED|../cose-gate --strikt keys.cbor
 2|/dev/null|usage: cose-gate [--strict] [--verbose] [--quiet] KEYS [AADHEX] < INPUT > PASSED|cose-gate keys.cbor --strikt < one.cbor
-2|/dev/null|usage: cose-ask [--strict] [--lines] [AADHEX]|cose-ask --strikt < one.cbor
-2|/dev/null|usage: cose-ask [--strict] [--lines] [AADHEX]|cose-ask 01 02 < one.cbor
-2|/dev/null|usage: cose-ask [--strict] [--lines] [AADHEX]|cose-ask $'\xff' < one.cbor
-2|/dev/null|usage: cose-ask [--strict] [--lines] [AADHEX]|../cose-ask --strikt
+2|/dev/null|usage: cose-ask [--strict] [--lines] [--fields] [AADHEX]|cose-ask --strikt < one.cbor
+2|/dev/null|usage: cose-ask [--strict] [--lines] [--fields] [AADHEX]|cose-ask 01 02 < one.cbor
+2|/dev/null|usage: cose-ask [--strict] [--lines] [--fields] [AADHEX]|cose-ask $'\xff' < one.cbor
+2|/dev/null|usage: cose-ask [--strict] [--lines] [--fields] [AADHEX]|../cose-ask --strikt
 2|/dev/null|usage: cose-pass [--strict] ACCEPTED [AADHEX]|cose-pass
 2|/dev/null|usage: cose-pass [--strict] ACCEPTED [AADHEX]|cose-pass --strikt /dev/null < one.cbor
 2|/dev/null|usage: cose-pass [--strict] ACCEPTED [AADHEX]|cose-pass /dev/null $'\xff' < one.cbor
@@ -85,6 +85,7 @@ rows() {
 1||passed 4, refused 5|cose-ask --strict --lines 01 < mixed.cbor > $T/lines
 1||passed 6, refused 3|cose-pass $T/records 01 < mixed.cbor > $T/passed
 1|$T/passed|passed 6, refused 3|cose-pass <(cose-ask --lines 01 < mixed.cbor 2> /dev/null) 01 < mixed.cbor
+1|$T/passed|passed 6, refused 3|cose-pass <(cose-ask --fields 01 < mixed.cbor 2> /dev/null) 01 < mixed.cbor
 1||passed 4, refused 5|cose-pass --strict $T/records 01 < mixed.cbor > $T/passed.strict
 1|$T/passed.strict|passed 4, refused 5|cose-pass --strict $T/lines 01 < mixed.cbor
 1|/dev/null|passed 0, refused 1|cose-pass $T/records < one.cbor

@@ -1,6 +1,6 @@
-//! `cose-ask [--strict] [--lines] [AADHEX]`: reads a CBOR sequence from standard input, and writes
-//! the records of all questions that the gate asks about it to standard output. AADHEX is the
-//! external data in hex.
+//! `cose-ask [--strict] [--lines] [--fields] [AADHEX]`: reads a CBOR sequence from standard input,
+//! and writes the records of all questions that the gate asks about it to standard output. AADHEX
+//! is the external data in hex.
 #![tactic(auto)]
 
 use ciborium_ll::Io;
@@ -13,14 +13,14 @@ use std::env;
 use std::process::ExitCode;
 
 /// The line for other arguments.
-const USAGE: &str = "usage: cose-ask [--strict] [--lines] [AADHEX]\n";
+const USAGE: &str = "usage: cose-ask [--strict] [--lines] [--fields] [AADHEX]\n";
 
 /// What `--version` prints.
 const VERSION: &str = "cose-ask 0.8\n";
 
 /// What `-h` and `--help` print. The script `cose-ask` prints the same.
 const HELP: &str = "\
-usage: cose-ask [--strict] [--lines] [AADHEX] < INPUT > QUESTIONS
+usage: cose-ask [--strict] [--lines] [--fields] [AADHEX] < INPUT > QUESTIONS
 Reads a CBOR sequence, and writes a record for each signature and MAC that has to
 be checked. Check them, and give the records of the good ones to cose-pass.
 AADHEX: the external data in hex, empty if it is left out.
@@ -30,6 +30,9 @@ AADHEX: the external data in hex, empty if it is left out.
             KIND is Sign1, Mac0, Sign or Mac; the others are hex, - if empty.
             SIGNATURE is over the bytes COVERED. Of a line only RECORD has to
             be given to cose-pass, as the last field.
+  --fields  lines that have three fields more, after KIND: ALG=-7, the number of
+            the protected algorithm; KID=, the key id in hex; CRIT=unknown if a
+            critical label isn't 1, 2 or 4. ALG=tstr is no number, - is for none.
   --strict  refuse messages that are not in canonical encoding
 Standard error has a line for each item, as if every signature were good.
 Status 0: no item was refused. 1: some were. 2: wrong arguments, or AADHEX is not

@@ -42,7 +42,7 @@ abbrev pub gates : List ℕ → Bool
 gates w = bytes_eq w (codes "--verbose") || bytes_eq w (codes "--quiet")
 
 abbrev pub asks : List ℕ → Bool
-asks w = bytes_eq w (codes "--lines")
+asks w = bytes_eq w (codes "--lines") || bytes_eq w (codes "--fields")
 
 -- KEYS, and AADHEX if it is there, with these options
 abbrev pub of_files : Bool → Bool → Bool → List (List ℕ) → Option Arguments
@@ -57,21 +57,23 @@ arguments ws =
     (filter (λ w. not (is_option w)) ws)
     else None
 
--- what the arguments of cose-ask ask for: [--strict] [--lines] [AADHEX]
+-- what the arguments of cose-ask ask for: [--strict] [--lines] [--fields] [AADHEX]
 pub record AskArguments : Type 0 where
   pub strict : Bool
   pub lines : Bool
+  pub fields : Bool
   pub aad : Option (List ℕ)
 
-abbrev pub of_aad : Bool → Bool → List (List ℕ) → Option AskArguments
-of_aad s l [] = Some (record { strict = s; lines = l; aad = None })
-of_aad s l (aad ∷ []) = Some (record { strict = s; lines = l; aad = Some aad })
-of_aad s l (aad ∷ more ∷ ws) = None
+abbrev pub of_aad : Bool → Bool → Bool → List (List ℕ) → Option AskArguments
+of_aad s l f [] = Some (record { strict = s; lines = l; fields = f; aad = None })
+of_aad s l f (aad ∷ []) = Some (record { strict = s; lines = l; fields = f; aad = Some aad })
+of_aad s l f (aad ∷ more ∷ ws) = None
 
 abbrev pub ask_arguments : List (List ℕ) → Option AskArguments
 ask_arguments ws =
     if are_known asks ws
     then of_aad (has (codes "--strict") ws) (has (codes "--lines") ws)
+    (has (codes "--fields") ws)
     (filter (λ w. not (is_option w)) ws)
     else None
 
@@ -85,7 +87,12 @@ pass_arguments ws = option_and_then if_plain (arguments ws)
 
 -- the same, as the code has them
 abbrev pub ask_view : HeldAsk → AskArguments
-ask_view a = record { strict = a.strict; lines = a.lines; aad = option_copied a.aad }
+ask_view a = record {
+  strict = a.strict;
+  lines = a.lines;
+  fields = a.fields;
+  aad = option_copied a.aad;
+}
 
 abbrev pub pass_view : HeldPass → Arguments
 pass_view a = record {

@@ -13,11 +13,12 @@ use Rattle.cose_gate_program.specs.Telling.{RanTold}
 use Rattle.cose_gate_program.specs.Writing.{Wrote}
 use Rattle.cose_gate_program.specs.declared.telling.Notice.{Notice}
 use Rattle.cose_gate_program.specs.declared.telling.Notice.TheVariants as notice
-use Rattle.cose_gate_records.specs.Records.{record_of}
 use Rattle.cose_gate_command.specs.Arguments.{AskArguments}
 use Rattle.cose_gate_command.specs.Ends.{bounds_by}
+use Rattle.cose_gate_command.specs.Lines.{form_of, told_as}
 use Rattle.cose_gate_command.specs.declared.not_run.NotRun.{NotRun}
 use Rattle.cose_gate_command.specs.declared.not_run.NotRun.TheVariants as unrun
+use Rattle.cose_gate_command.specs.declared.options.Form.{Form}
 
 -- the status if a program doesn't run, or ends without its output
 abbrev pub status_of : NotRun → ℕ
@@ -77,6 +78,11 @@ abbrev pub Hands : {T W F : Type 0} → Writes W F → W → W → Result T NotR
 Hands w out out' (Ok s) text = Sent {E = NotRun} w out out' (Ok s) text
 Hands w out out' (Err why) text = Fails w out out' why text
 
+-- the status of the run, unless its output wasn't written
+abbrev pub or_status : ℕ → Result (Unit {0}) NotRun → Result ℕ NotRun
+or_status s (Ok u) = Ok s
+or_status s (Err why) = Err why
+
 -- the lines of a run, without the last one if it ended without its output
 abbrev pub lines_if : Result ℕ NotRun → List Notice → List ℕ
 lines_if (Ok s) notices = lines_of notices
@@ -88,12 +94,13 @@ IsStatus (Ok s) status = s ≡ status
 IsStatus (Err why) status = Unit {0}
 
 -- the gate ran over the input, with a judge that says yes to each question: the records of the
--- questions that were asked are handed out, after the lines of the items and before the last one
-abbrev pub Asked : {W F E G : Type 0} (w : Writes W F) (e : Writes E G) → Bounds → Bool → List ℕ
+-- questions that were asked, or their lines, are handed out, after the lines of the items and
+-- before the last one
+abbrev pub Asked : {W F E G : Type 0} (w : Writes W F) (e : Writes E G) → Bounds → Form → List ℕ
     → Devices → Devices → W → W → E → E → Result ℕ NotRun → Type 0
-Asked w e limits lines aad old new out out' err err' result = (status : ℕ)
+Asked w e limits form aad old new out out' err err' result = (status : ℕ)
     × IsStatus result status × RanTold limits (λ _. true) aad old new status
-    (λ asked. lines ≡ false → Hands w out out' result (flat_map record_of asked))
+    (λ asked. Hands w out out' result (flat_map (told_as form) asked))
     (λ notices. Wrote e err err' (lines_if result notices))
 
 -- how cose-ask ends with these arguments: that, or it isn't run, and nothing was read, written or
@@ -103,5 +110,5 @@ pub data Asks {W F E G : Type 0} (w : Writes W F) (e : Writes E G) (a : Option A
   not_run : (why : NotRun) → AsksNot a why → result ≡ Err why → new ≡ old → out' ≡ out
       → err' ≡ err → Asks w e a old new out out' err err' result
   after_run : (b : AskArguments) → a ≡ Some b → (d : List ℕ) → aad_of b.aad ≡ Some d
-      → Asked w e (bounds_by b.strict) b.lines d old new out out' err err' result
+      → Asked w e (bounds_by b.strict) (form_of b.lines b.fields) d old new out out' err err' result
       → Asks w e a old new out out' err err' result

@@ -1,8 +1,12 @@
 pub mod Arguments
 pub mod Asking
 pub mod Ends
+pub mod Fields
+pub mod Hex
 pub mod KeyFiles
+pub mod Lines
 pub mod Options
 pub mod Passing
+pub mod Read
 pub mod Said
 pub mod Waiting

@@ -1,16 +1,19 @@
 //! The run of `cose-ask`.
-ghost use Rattle.std.specs.Prelude.{◌≡◌, map, string_bytes};
+ghost use Rattle.std.specs.Prelude.{◌≡◌, false, is_ok, map, string_bytes};
 ghost use Rattle.cose_gate_command.specs.Arguments as spec;
-ghost use Rattle.cose_gate_command.specs.Asking.{Asks, Asked, reading};
-ghost use Rattle.cose_gate_command.specs.Waiting.{Held};
+ghost use Rattle.cose_gate_command.specs.Asking.{Asks, Asked, or_status, reading};
+ghost use Rattle.cose_gate_command.specs.Lines.{form_of};
+ghost use Rattle.cose_gate_command.specs.Waiting.{Held, last_line};
 ghost use Rattle.cose_gate_core.specs.Terms.{limits_of};
 ghost use Rattle.cose_gate_program.specs.Program.{hears};
 ghost use Rattle.cose_gate_program.specs.Telling.{RanTold};
+ghost use Rattle.cose_gate_program.specs.Writing.{Wrote};
 
 use crate::ending::{Ending, end};
-use crate::lines::write_questions;
+use crate::lines::{Layout, write_plainly, write_questions};
 use crate::not_run::NotRun;
-use crate::options::{ask_arguments, read_aad};
+use crate::noting::Noting;
+use crate::options::{Form, ask_arguments, read_aad};
 use ciborium_ll::log::Log;
 use ciborium_ll::{Read, Write};
 use cose_gate_core::Judge;
@@ -50,7 +53,7 @@ pub fn ask<R: Read, W: Write, E: Write>(
     ask_by(
         alloc,
         terms,
-        arguments.lines,
+        arguments.form(),
         aad.as_slice(),
         input,
         out,
@@ -58,8 +61,31 @@ pub fn ask<R: Read, W: Write, E: Write>(
     )
 }
 
-/// Asks by these terms.
+/// Asks by these terms, and writes the questions in this form.
 fn ask_by<R: Read, W: Write, E: Write>(
+    alloc: Global,
+    terms: Terms,
+    form: Form,
+    aad: &[u8],
+    input: &mut R,
+    out: &mut W,
+    err: &mut E,
+) -> Result<u8, NotRun>
+    ensures ran { Asked W.Write E.Write (limits_of terms) form aad.now
+        (reading R.Read input.old) (reading R.Read input.new)
+        out.old out.new err.old err.new result }
+    ensures kept { R.handle input.new ≡ R.handle input.old }
+    ensures lent { W.handle out.new ≡ W.handle out.old }
+{
+    match form {
+        Form::Records => ask_plainly(alloc, terms, false, aad, input, out, err),
+        Form::Lines => ask_plainly(alloc, terms, true, aad, input, out, err),
+        Form::Fields => ask_with_fields(alloc, terms, aad, input, out, err),
+    }
+}
+
+/// Asks by these terms, and writes the records or their lines.
+fn ask_plainly<R: Read, W: Write, E: Write>(
     alloc: Global,
     terms: Terms,
     as_lines: bool,
@@ -68,7 +94,7 @@ fn ask_by<R: Read, W: Write, E: Write>(
     out: &mut W,
     err: &mut E,
 ) -> Result<u8, NotRun>
-    ensures ran { Asked W.Write E.Write (limits_of terms) as_lines aad.now
+    ensures ran { Asked W.Write E.Write (limits_of terms) (form_of as_lines false) aad.now
         (reading R.Read input.old) (reading R.Read input.new)
         out.old out.new err.old err.new result }
     ensures kept { R.handle input.new ≡ R.handle input.old }
@@ -76,8 +102,43 @@ fn ask_by<R: Read, W: Write, E: Write>(
 {
     let mut asker = Asker::new(alloc);
     let (status, last) = run_waiting(alloc, terms, aad, input, err, &mut asker);
-    let written = write_questions(as_lines, asker.records(), out);
-    end(written.is_ok(), &last, err);
+    let written = write_plainly(as_lines, asker.records(), out);
+    finish(status, written, &last, err)
+}
+
+/// The same with the fields of each question in its line.
+fn ask_with_fields<R: Read, W: Write, E: Write>(
+    alloc: Global,
+    terms: Terms,
+    aad: &[u8],
+    input: &mut R,
+    out: &mut W,
+    err: &mut E,
+) -> Result<u8, NotRun>
+    ensures ran { Asked W.Write E.Write (limits_of terms) Form.Fields aad.now
+        (reading R.Read input.old) (reading R.Read input.new)
+        out.old out.new err.old err.new result }
+    ensures kept { R.handle input.new ≡ R.handle input.old }
+    ensures lent { W.handle out.new ≡ W.handle out.old }
+{
+    let mut noting = Noting::new(alloc, Asker::new(alloc));
+    let (status, last) = run_waiting(alloc, terms, aad, input, err, &mut noting);
+    let layout = Layout::Fields(&noting.fields);
+    let written = write_questions(layout, noting.judge.records(), out);
+    finish(status, written, &last, err)
+}
+
+/// Writes the last line of a run, if its output was written, and returns its status then.
+fn finish<E: Write>(
+    status: u8,
+    written: Result<(), NotRun>,
+    last: &Option<Notice>,
+    err: &mut E,
+) -> Result<u8, NotRun>
+    ensures status { result ≡ or_status status written }
+    ensures lines { Wrote E.Write err.old err.new (last_line (is_ok result) last.now) }
+{
+    end(written.is_ok(), last, err);
     match written {
         Ok(()) => Ok(status),
         Err(why) => Err(why),

@@ -1,55 +1,51 @@
 //! Questions as lines of text.
-ghost use Rattle.std.specs.Prelude.{◌≡◌, false, MatchOption, Err};
+ghost use Rattle.std.specs.Prelude.{◌≡◌, ◌<◌, ◌∷◌, ◌++◌, [], ℕ, List, flat_map, slice_index};
+ghost use Rattle.std.specs.Prelude.{MatchOption, Err, map, string_bytes};
+ghost use Rattle.hex.specs.Hex.{encode_lower, lower_digits};
 ghost use Rattle.cose_gate_command.specs.Asking.{Hands, Sent};
+ghost use Rattle.cose_gate_command.specs.Lines as spec;
+ghost use Rattle.cose_gate_command.specs.Hex.{hex_field};
+ghost use Rattle.cose_gate_command.specs.Lines.{line_by, next_field};
+ghost use Rattle.cose_gate_command.specs.Read.{AreFielded, AreLines, IsHanded, IsWritten};
+ghost use Rattle.cose_gate_command.specs.Read.{texts_read};
 ghost use Rattle.cose_gate_command.specs.declared.not_run.NotRun.TheVariants.{Memory};
 
-use crate::framing::split_first;
 use crate::not_run::NotRun;
-use crate::question::{Question, read_question};
+use crate::question::{Question, first_question};
 use ciborium_ll::Write;
+use cose_gate_core::MessageKind;
 
-/// Writes a line for each record: the kind of the message by name, the seven texts of the record,
-/// and the record, in hex, with a space between two. An empty text is `-`. It stops at bytes that
-/// are not a record.
-///
-/// # Errors
-/// Those of the writer.
-pub fn write_lines<W: Write>(records: &[u8], out: &mut W) -> Result<(), W::Error>
-    ensures lent { W.handle out.new ≡ W.handle out.old }
-{
-    let mut rest = records;
-    for _ in 0..records.len() {
-        let Some((record, more)) = first_record(rest) else {
-            break;
-        };
-        let Some(question) = read_question(record) else {
-            break;
-        };
-        write_line(&question, record, out)?;
-        rest = more;
-    }
-    Ok(())
+/// How questions are written.
+#[derive(Clone, Copy)]
+pub(crate) enum Layout<'a> {
+    /// Their records.
+    Records,
+    /// A line for each.
+    Lines,
+    /// A line for each, with these fields after its kind.
+    Fields(&'a [String]),
 }
 
-/// Writes the records, as lines if that is asked, and flushes the writer. `None` are records that
-/// are lost, since it was out of memory for one.
+/// Writes the records in this layout, and flushes the writer. `None` are records that are lost,
+/// since it was out of memory for one.
 ///
 /// # Errors
 /// `Memory` and `Output`.
 pub(crate) fn write_questions<W: Write>(
-    as_lines: bool,
+    layout: Layout,
     records: Option<&[u8]>,
     out: &mut W,
 ) -> Result<(), NotRun>
     ensures hands { MatchOption records.entry
         ((result ≡ Err Memory) × (out.new ≡ out.old))
-        (λ r. as_lines ≡ false → Hands W.Write out.old out.new result r.now) }
+        (λ r. (told : List ℕ) → IsHanded layout.entry r.now told
+        → Hands W.Write out.old out.new result told) }
     ensures lent { W.handle out.new ≡ W.handle out.old }
 {
     let Some(records) = records else {
         return Err(NotRun::Memory);
     };
-    if write_as(as_lines, records, out).is_err() {
+    if write_as(layout, records, out).is_err() {
         return Err(NotRun::Output);
     }
     if out.flush().is_err() {
@@ -58,63 +54,169 @@ pub(crate) fn write_questions<W: Write>(
     Ok(())
 }
 
-/// Writes the records, as lines if that is asked.
-fn write_as<W: Write>(as_lines: bool, records: &[u8], out: &mut W) -> Result<(), W::Error>
-    ensures sent { as_lines ≡ false → Sent W.Write out.old out.new result records.now }
+/// Writes the records or their lines, and flushes the writer, as `write_questions` does.
+///
+/// # Errors
+/// Those of `write_questions`.
+pub(crate) fn write_plainly<W: Write>(
+    as_lines: bool,
+    records: Option<&[u8]>,
+    out: &mut W,
+) -> Result<(), NotRun>
+    ensures hands { MatchOption records.entry
+        ((result ≡ Err Memory) × (out.new ≡ out.old))
+        (λ r. (told : List ℕ) → IsWritten as_lines r.now told
+        → Hands W.Write out.old out.new result told) }
     ensures lent { W.handle out.new ≡ W.handle out.old }
 {
     if as_lines {
-        return write_lines(records, out);
+        return write_questions(Layout::Lines, records, out);
     }
-    out.write_all(records)
+    write_questions(Layout::Records, records, out)
 }
 
-/// The first record with its length, and the rest.
-fn first_record(records: &[u8]) -> Option<(&[u8], &[u8])> {
-    let (_, rest) = split_first(records)?;
-    records.split_at_checked(records.len().checked_sub(rest.len())?)
-}
-
-/// Writes the line of a question.
-fn write_line<W: Write>(question: &Question, record: &[u8], out: &mut W) -> Result<(), W::Error>
+/// Writes the records in this layout.
+fn write_as<W: Write>(layout: Layout, records: &[u8], out: &mut W) -> Result<(), W::Error>
+    ensures sent { (told : List ℕ) → IsHanded layout.entry records.now told
+        → Sent W.Write out.old out.new result told }
     ensures lent { W.handle out.new ≡ W.handle out.old }
 {
-    out.write_all(question.kind.as_bytes())?;
-    for text in [
-        question.protected,
-        question.unprotected,
-        question.signer_protected,
-        question.signer_unprotected,
-        question.recipients,
-        question.covered,
-        question.signature,
-        record,
-    ] {
+    match layout {
+        Layout::Records => out.write_all(records),
+        Layout::Lines => write_lines(records, out),
+        Layout::Fields(fields) => write_fielded_lines(records, fields, out),
+    }
+}
+
+/// Writes a line for each record: the kind of the message by name, the seven texts of the record,
+/// and the record, in hex, with a space between two. An empty text is `-`. It stops at bytes that
+/// are not a record.
+///
+/// # Errors
+/// Those of the writer.
+fn write_lines<W: Write>(records: &[u8], out: &mut W) -> Result<(), W::Error>
+    ensures sent { (lines : List ℕ) → AreLines records.now lines
+        → Sent W.Write out.old out.new result lines }
+    ensures lent { W.handle out.new ≡ W.handle out.old }
+{
+    let mut rest = records;
+    while let Some((question, more)) = first_question(rest) {
+        write_line(&question, b"", out)?;
+        rest = more;
+    }
+    Ok(())
+}
+
+/// The same with these fields after the kind, as many lines as there are fields.
+///
+/// # Errors
+/// Those of the writer.
+fn write_fielded_lines<W: Write>(
+    records: &[u8],
+    fields: &[String],
+    out: &mut W,
+) -> Result<(), W::Error>
+    ensures sent { (lines : List ℕ)
+        → AreFielded (map string_bytes fields.now) records.now lines
+        → Sent W.Write out.old out.new result lines }
+    ensures lent { W.handle out.new ≡ W.handle out.old }
+{
+    let mut rest = records;
+    for field in fields {
+        let Some((question, more)) = first_question(rest) else {
+            return Ok(());
+        };
+        write_line(&question, field.as_bytes(), out)?;
+        rest = more;
+    }
+    Ok(())
+}
+
+/// Writes the line of a question with these fields.
+fn write_line<W: Write>(question: &Question, fields: &[u8], out: &mut W) -> Result<(), W::Error>
+    ensures sent { Sent W.Write out.old out.new result (line_by question.now.kind fields.now
+        (texts_read question.now ++ question.now.record.now ∷ [])) }
+    ensures lent { W.handle out.new ≡ W.handle out.old }
+{
+    out.write_all(name_of(question.kind).as_bytes())?;
+    out.write_all(fields)?;
+    write_texts(
+        &[
+            question.protected,
+            question.unprotected,
+            question.signer_protected,
+            question.signer_unprotected,
+            question.recipients,
+            question.covered,
+            question.signature,
+            question.record,
+        ],
+        out,
+    )?;
+    out.write_all(b"\n")
+}
+
+/// Writes these texts, each with a space before it.
+fn write_texts<W: Write>(texts: &[&[u8]], out: &mut W) -> Result<(), W::Error>
+    ensures sent { Sent W.Write out.old out.new result
+        (flat_map (λ t. next_field t.now) texts.now) }
+    ensures lent { W.handle out.new ≡ W.handle out.old }
+{
+    for text in texts {
         out.write_all(b" ")?;
         write_field(text, out)?;
     }
-    out.write_all(b"\n")
+    Ok(())
 }
 
 /// Writes a field.
 fn write_field<W: Write>(text: &[u8], out: &mut W) -> Result<(), W::Error>
+    ensures sent { Sent W.Write out.old out.new result (hex_field «text».now) }
     ensures lent { W.handle out.new ≡ W.handle out.old }
 {
     if text.is_empty() {
         return out.write_all(b"-");
     }
-    for byte in text {
-        out.write_all(&[digit(*byte / 16), digit(*byte % 16)])?;
+    write_hex(text, out)
+}
+
+/// Writes bytes in hex.
+fn write_hex<W: Write>(bytes: &[u8], out: &mut W) -> Result<(), W::Error>
+    ensures sent { Sent W.Write out.old out.new result (encode_lower bytes.now) }
+    ensures lent { W.handle out.new ≡ W.handle out.old }
+{
+    for byte in bytes {
+        out.write_all(&digits(*byte))?;
     }
     Ok(())
 }
 
+/// The two hex digits of a byte.
+fn digits(byte: u8) -> [u8; 2]
+    ensures { result ≡ encode_lower (byte ∷ []) }
+{
+    [digit(byte / 16), digit(byte % 16)]
+}
+
+const DIGITS: &[u8; 16] = b"0123456789abcdef";
+
 /// The hex digit of a value below 16.
-fn digit(value: u8) -> u8 {
-    if value < 10 {
-        b'0'.wrapping_add(value)
-    } else {
-        b'a'.wrapping_add(value.wrapping_sub(10))
+fn digit(value: u8) -> u8
+    requires { value < 16 }
+    ensures { result ≡ slice_index lower_digits value }
+{
+    DIGITS[usize::from(value)]
+}
+
+/// The name of a kind of message.
+fn name_of(kind: MessageKind) -> &'static str
+    ensures { result.now ≡ spec.name_of kind }
+{
+    match kind {
+        MessageKind::Sign1 => "Sign1",
+        MessageKind::Mac0 => "Mac0",
+        MessageKind::Sign => "Sign",
+        MessageKind::Mac => "Mac",
     }
 }
 
@@ -134,7 +236,7 @@ mod tests {
             records.extend_from_slice(&record).expect(&rt, "memory");
         }
         let mut out = Mem::new(Vec::new(alloc));
-        assert!(rt; write_questions(true, Some(&records), &mut out).is_ok());
+        assert!(rt; write_questions(Layout::Lines, Some(&records), &mut out).is_ok());
         let lines = out.as_written().iter().filter(|byte| **byte == b'\n');
         assert_eq!(rt; lines.count(), 100);
     }
@@ -142,7 +244,7 @@ mod tests {
     #[test]
     fn lost_records_are_told(rt: HostRuntime) {
         let mut out = Mem::new(Vec::new(rt.alloc()));
-        let written = write_questions(false, None, &mut out);
+        let written = write_questions(Layout::Records, None, &mut out);
         assert_eq!(rt; written, Err(NotRun::Memory));
     }
 }

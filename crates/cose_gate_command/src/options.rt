@@ -5,6 +5,7 @@ ghost use Rattle.cose_gate_program.specs.Beginning.{aad_of};
 ghost use Rattle.cose_gate_command.specs.Arguments as spec;
 ghost use Rattle.cose_gate_command.specs.Arguments.{ask_view, pass_view};
 ghost use Rattle.cose_gate_command.specs.Asking.{IsNoAad};
+ghost use Rattle.cose_gate_command.specs.Lines.{form_of};
 ghost use Rattle.cose_gate_command.specs.Options.{asks_after};
 
 use crate::arguments::{is_option, read_arguments};
@@ -19,8 +20,21 @@ pub struct AskArguments<'a> {
     pub strict: bool,
     /// The questions are written as lines of text.
     pub lines: bool,
+    /// The lines say what the headers say of the key, too.
+    pub fields: bool,
     /// The external data in hex.
     pub aad: Option<&'a str>,
+}
+
+/// What is written of a question.
+#[derive(Debug, Clone, Copy, PartialEq, Eq)]
+pub enum Form {
+    /// Its record.
+    Records,
+    /// A line of text.
+    Lines,
+    /// A line of text that says what the headers say of the key, too.
+    Fields,
 }
 
 /// The arguments of `cose-pass`.
@@ -35,6 +49,19 @@ pub struct PassArguments<'a> {
 }
 
 impl<'a> AskArguments<'a> {
+    /// What is written of a question: with `--fields` it is a line, too.
+    pub(crate) fn form(&self) -> Form
+        ensures { result ≡ form_of self.now.lines self.now.fields }
+    {
+        if self.fields {
+            Form::Fields
+        } else if self.lines {
+            Form::Lines
+        } else {
+            Form::Records
+        }
+    }
+
     /// Takes the next word, if it fits.
     fn take(&mut self, word: &'a str) -> bool
         ensures { (ws : List (List ℕ)) → asks_after self.old (word.now ∷ ws)
@@ -43,6 +70,7 @@ impl<'a> AskArguments<'a> {
         match word {
             "--strict" => self.strict = true,
             "--lines" => self.lines = true,
+            "--fields" => self.fields = true,
             word if is_option(word) => return false,
             word => match self.aad {
                 None => self.aad = Some(word),
@@ -53,14 +81,15 @@ impl<'a> AskArguments<'a> {
     }
 }
 
-/// The arguments `[--strict] [--lines] [AADHEX]`; `None` if they are others. Options may be
-/// before and after AADHEX.
+/// The arguments `[--strict] [--lines] [--fields] [AADHEX]`; `None` if they are others. Options may
+/// be before and after AADHEX.
 pub fn ask_arguments(all: &[String]) -> Option<AskArguments<'_>>
     ensures { option_map ask_view result ≡ spec.ask_arguments (map string_bytes all.now) }
 {
     let mut asked = AskArguments {
         strict: false,
         lines: false,
+        fields: false,
         aad: None,
     };
     for word in all {

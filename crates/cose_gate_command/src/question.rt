@@ -1,11 +1,18 @@
 //! A question, as its record shows it.
-use crate::framing::split_first;
+ghost use Rattle.std.specs.Prelude.{◌≡◌, ◌++◌, ℕ, List, MatchOption, length};
+ghost use Rattle.cose_gate_command.specs.Read.{key_with, texts_read};
+ghost use Rattle.cose_gate_core.specs.Questions.{number_of};
+ghost use Rattle.cose_gate_core.specs.declared.about.MessageKind.{MessageKind};
+ghost use Rattle.cose_gate_records.specs.Framing.{framed};
+
+use crate::framing::{split_first, split_number};
+use cose_gate_core::MessageKind;
 
 /// A question, as its record shows it.
 #[derive(Debug, Clone, Copy, PartialEq, Eq)]
-pub struct Question<'a> {
-    /// The kind of the message, by name.
-    pub kind: &'static str,
+pub(crate) struct Question<'a> {
+    /// The kind of the message.
+    pub kind: MessageKind,
     /// The protected header as received.
     pub protected: &'a [u8],
     /// The unprotected header, encoded.
@@ -22,31 +29,63 @@ pub struct Question<'a> {
     pub covered: &'a [u8],
     /// The signature or the MAC.
     pub signature: &'a [u8],
+    /// The record.
+    pub record: &'a [u8],
 }
 
-/// The name of the kind of message with this tag.
-fn kind_of(tag: u64) -> Option<&'static str> {
+/// The kind of message with this tag.
+fn kind_of(tag: u64) -> Option<MessageKind>
+    ensures { MatchOption result ((kind : MessageKind) → number_of kind ≡ tag → ⊥)
+        (λ kind. number_of kind ≡ tag) }
+{
     match tag {
-        17 => Some("Mac0"),
-        18 => Some("Sign1"),
-        97 => Some("Mac"),
-        98 => Some("Sign"),
+        17 => Some(MessageKind::Mac0),
+        18 => Some(MessageKind::Sign1),
+        97 => Some(MessageKind::Mac),
+        98 => Some(MessageKind::Sign),
         _ => None,
     }
+}
+
+/// The question of the first of these records, and the records after it; `None` if the bytes don't
+/// begin with a record.
+pub(crate) fn first_question(records: &[u8]) -> Option<(Question<'_>, &[u8])>
+    ensures { MatchOption result
+        ((kind : MessageKind) (texts : List (List ℕ)) (rest : List ℕ) → length texts ≡ 7
+        → records.now ≡ framed (key_with kind texts) ++ rest → ⊥)
+        (λ p. (p.0.record.now ≡ framed (key_with p.0.kind (texts_read p.0)))
+        × (records.now ≡ p.0.record.now ++ p.1.now)) }
+{
+    let (key, rest) = split_first(records)?;
+    let question = read_key(key, &records[..records.len() - rest.len()])?;
+    Some((question, rest))
 }
 
 /// The question of a whole record; `None` if the bytes are not exactly one record.
-pub fn read_question(record: &[u8]) -> Option<Question<'_>> {
-    match split_first(record)? {
-        (key, []) => read_key(key),
-        _ => None,
+pub(crate) fn read_question(record: &[u8]) -> Option<Question<'_>>
+    ensures { MatchOption result
+        ((kind : MessageKind) (texts : List (List ℕ)) → length texts ≡ 7
+        → record.now ≡ framed (key_with kind texts) → ⊥)
+        (λ q. record.now ≡ framed (key_with q.kind (texts_read q))) }
+{
+    let (question, rest) = first_question(record)?;
+    if rest.is_empty() {
+        Some(question)
+    } else {
+        None
     }
 }
 
-/// The question of a key.
-fn read_key(key: &[u8]) -> Option<Question<'_>> {
-    let (tag, rest) = key.split_first_chunk::<8>()?;
-    let kind = kind_of(u64::from_le_bytes(*tag))?;
+/// The question of a key, which this record has.
+fn read_key<'a>(key: &'a [u8], record: &'a [u8]) -> Option<Question<'a>>
+    ensures key { MatchOption result
+        ((kind : MessageKind) (texts : List (List ℕ)) → length texts ≡ 7
+        → key.now ≡ key_with kind texts → ⊥)
+        (λ q. key.now ≡ key_with q.kind (texts_read q)) }
+    ensures kept { MatchOption result (Unit {0}) (λ q. q.record.now ≡ «record».now) }
+{
+    let (tag, rest) = split_number(key)?;
+    let kind = kind_of(tag)?;
     let (protected, rest) = split_first(rest)?;
     let (unprotected, rest) = split_first(rest)?;
     let (signer_protected, rest) = split_first(rest)?;
@@ -66,5 +105,6 @@ fn read_key(key: &[u8]) -> Option<Question<'_>> {
         recipients,
         covered,
         signature,
+        record,
     })
 }

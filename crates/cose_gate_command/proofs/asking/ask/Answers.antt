@@ -17,4 +17,4 @@ returns-in_err-aad-clause-ran g c =
 
 pub returns-clause-ran : goal.returns-clause-ran
 returns-clause-ran g c = after_run (ask_view c.in-Some.arguments) (sym c.ask_arguments.ensures ∙ ap (option_map ask_view) c.in-Some.is) _ c.in_ok-aad.ensures
-    (rw c.as_slice.ensures.value at (rw (usually c.default.result c.in-Some.arguments.strict c.default.ensures) at c.ask_by.ensures.ran))
+    (rw c.as_slice.ensures.value at (rw c.form.ensures at (rw (usually c.default.result c.in-Some.arguments.strict c.default.ensures) at c.ask_by.ensures.ran)))

@@ -1,0 +1,42 @@
+-- Questions that are read from their records.
+use Rattle.std.specs.Prelude.{◌≡◌, ℕ, List, [], ◌∷◌, ◌++◌, flat_map, map, string_bytes, Bool, true, false}
+use Rattle.cose_gate_core.specs.Questions.{Question, number_of}
+use Rattle.cose_gate_core.specs.declared.about.MessageKind.{MessageKind}
+use Rattle.cose_gate_records.specs.Framing.{eight, framed}
+use Rattle.cose_gate_records.specs.Records.{record_of}
+use Rattle.cose_gate_command.specs.Fields.{key_fields}
+use Rattle.cose_gate_command.specs.Lines.{question_line, fielded_line}
+use Rattle.cose_gate_command.specs.declared.lines.Layout.{Layout}
+use Rattle.cose_gate_command.specs.declared.lines.Layout.TheVariants.{Records, Lines, Fields}
+use Rattle.cose_gate_command.specs.declared.question.Question.{Question as ReadQuestion}
+
+-- the key of a question of this kind and with these texts: the tag, and each text after its length
+abbrev pub key_with : MessageKind → List (List ℕ) → List ℕ
+key_with kind texts = eight (number_of kind) ++ flat_map framed texts
+
+-- the seven texts of a question that was read
+abbrev pub texts_read : ReadQuestion → List (List ℕ)
+texts_read q =
+    q.protected.now ∷ q.unprotected.now ∷ q.signer_protected.now ∷ q.signer_unprotected.now
+    ∷ q.recipients.now ∷ q.covered.now ∷ q.signature.now ∷ []
+
+-- bytes are the records of questions, and a text is their lines
+abbrev pub AreLines : List ℕ → List ℕ → Type 0
+AreLines records text = (qs : List Question) × (records ≡ flat_map record_of qs)
+    × (text ≡ flat_map question_line qs)
+
+-- the same with what the headers of each say of its key
+abbrev pub AreFielded : List (List ℕ) → List ℕ → List ℕ → Type 0
+AreFielded fields records text = (qs : List Question) × (records ≡ flat_map record_of qs)
+    × (fields ≡ map (λ q. key_fields q.subject) qs) × (text ≡ flat_map fielded_line qs)
+
+-- what is handed out of records: they themselves, or their lines
+abbrev pub IsHanded : Layout → List ℕ → List ℕ → Type 0
+IsHanded Records records text = text ≡ records
+IsHanded Lines records text = AreLines records text
+IsHanded (Fields fields) records text = AreFielded (map string_bytes fields.now) records text
+
+-- the records, or their lines
+abbrev pub IsWritten : Bool → List ℕ → List ℕ → Type 0
+IsWritten false records text = text ≡ records
+IsWritten true records text = AreLines records text
