@@ -51,8 +51,7 @@ fn named(to: &mut Out, name: &str, row: &mut &str) {
 fn of_program(to: &mut Out, name: &str, row: &mut &str) {
     match name {
         "run" => program::run(to, row),
-        "run-strict" => program::run_strict(to, row),
-        "run-room" => program::run_in_room(to, row),
+        "run-held" => program::run_held(to, row),
         "words" => program::arguments(to, row),
         "command" => program::command(to, row),
         "command-room" => program::command_in_room(to, row),

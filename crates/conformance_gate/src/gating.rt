@@ -19,22 +19,9 @@ enum Way {
     StrictWithin(Limits),
 }
 
-/// A run of `gate`. It has no contract: so the gate's many clauses are not proved over again in its
-/// callers.
+/// A run by one of these calls. It has no contract: so the gate's many clauses are not proved over
+/// again in its callers.
 fn gated<W: Write, P: Report>(
-    alloc: Global,
-    input: &[u8],
-    aad: &[u8],
-    out: &mut W,
-    report: &mut P,
-    judge: &mut Recorder,
-) -> Ended {
-    let mut decoder = Decoder::from(input);
-    gate(alloc, &mut decoder, out, report, aad, judge)
-}
-
-/// As `gated`, within limits if there are some, and strict if it is asked.
-fn gated_by<W: Write, P: Report>(
     alloc: Global,
     way: Way,
     input: &[u8],
@@ -86,7 +73,7 @@ fn run_by(to: &mut Out, way: Way, row: &mut &str) {
     let mut judge = Recorder::new(alloc, no);
     let mut out = Mem::new(Vec::new(alloc));
     let mut entries = Vec::new(alloc);
-    let ended = gated_by(alloc, way, &input, &aad, &mut out, &mut entries, &mut judge);
+    let ended = gated(alloc, way, &input, &aad, &mut out, &mut entries, &mut judge);
     add_questions(to, judge.asked());
     add_output(to, out.as_written());
     add_entries(to, entries.as_slice());
@@ -100,8 +87,9 @@ pub fn run_in_room(to: &mut Out, row: &mut &str) {
     let input = words::bytes(to, row);
     let mut memory = [0; 64];
     let mut out = Mem::new(&mut memory[..room.min(64)]);
-    let mut judge = Recorder::new(to.alloc(), None);
-    let ended = gated(to.alloc(), &input, &[], &mut out, &mut Silent, &mut judge);
+    let (alloc, way) = (to.alloc(), Way::Plain);
+    let mut judge = Recorder::new(alloc, None);
+    let ended = gated(alloc, way, &input, &[], &mut out, &mut Silent, &mut judge);
     add_output(to, out.as_written());
     add_end(to, ended);
 }
@@ -116,7 +104,8 @@ struct Trace {
 fn traced(alloc: Global, input: &[u8], aad: &[u8]) -> Trace {
     let mut judge = Recorder::new(alloc, None);
     let mut out = Mem::new(Vec::new(alloc));
-    let _ = gated(alloc, input, aad, &mut out, &mut Silent, &mut judge);
+    let way = Way::Plain;
+    let _ = gated(alloc, way, input, aad, &mut out, &mut Silent, &mut judge);
     let mut asked = Out::new(alloc);
     add_questions(&mut asked, judge.asked());
     Trace {

@@ -2,7 +2,7 @@
 use crate::out::{NoAnswer, Out};
 use crate::words;
 use ciborium_ll::Io;
-use cose_gate::{Limits, Mem, Terms, Write};
+use cose_gate::{Mem, Write};
 use cose_gate_command::{NotRun, ask, ended, pass};
 use std::alloc::Global;
 use std::io::{BufWriter, Cursor};
@@ -10,54 +10,27 @@ use test_tools::Held;
 
 /// A run with these keys and this AADHEX: its status, its output, and its lines.
 pub fn run(to: &mut Out, row: &mut &str) {
-    let keys = words::optional(to, row);
-    let aad = aad_word(words::word(to, row));
-    let input = words::bytes(to, row);
-    let alloc = to.alloc();
-    let mut out = Mem::new(Vec::new(alloc));
-    let mut err = Mem::new(Vec::new(alloc));
-    let mut reader = input.as_slice();
-    let status = cose_gate::run(alloc, keys.as_deref(), aad, &mut reader, &mut out, &mut err);
-    add_ended(to, status, out.as_written(), err.as_written());
+    run_flushed(to, usize::MAX, row);
 }
 
-/// The same, strict.
-pub fn run_strict(to: &mut Out, row: &mut &str) {
-    let keys = words::optional(to, row);
-    let aad = aad_word(words::word(to, row));
-    let input = words::bytes(to, row);
-    let alloc = to.alloc();
-    let mut out = Mem::new(Vec::new(alloc));
-    let mut err = Mem::new(Vec::new(alloc));
-    let mut reader = input.as_slice();
-    let status = cose_gate::run_with(
-        alloc,
-        Terms {
-            limits: Limits::default(),
-            strict: true,
-        },
-        keys.as_deref(),
-        aad,
-        &mut reader,
-        &mut out,
-        &mut err,
-    );
-    add_ended(to, status, out.as_written(), err.as_written());
+/// The same, if the output can be flushed so many times; and how many bytes of the input are left.
+pub fn run_held(to: &mut Out, row: &mut &str) {
+    let flushes = words::number(to, row);
+    let left = run_flushed(to, flushes, row);
+    add_left(to, left);
 }
 
-/// The same, not strict, if the output has space for so many bytes, 64 at most.
-pub fn run_in_room(to: &mut Out, row: &mut &str) {
-    let room = words::number(to, row);
+fn run_flushed(to: &mut Out, flushes: usize, row: &mut &str) -> usize {
     let keys = words::optional(to, row);
     let aad = aad_word(words::word(to, row));
     let input = words::bytes(to, row);
-    let alloc = to.alloc();
-    let mut memory = [0; 64];
-    let mut out = Mem::new(&mut memory[..room.min(64)]);
-    let mut err = Mem::new(Vec::new(alloc));
+    let mut out = Held::new(to.alloc(), flushes);
+    let mut err = shown_writer(to);
     let mut reader = input.as_slice();
-    let status = cose_gate::run(alloc, keys.as_deref(), aad, &mut reader, &mut out, &mut err);
-    add_ended(to, status, out.as_written(), err.as_written());
+    let keys = keys.as_deref();
+    let status = cose_gate::run(to.alloc(), keys, aad, &mut reader, &mut out, &mut err);
+    add_ended(to, status, shown(&out), shown(&err));
+    reader.len()
 }
 
 /// The same as `command`, if the output has space for so many bytes, 64 at most.
@@ -100,12 +73,12 @@ pub fn command(to: &mut Out, row: &mut &str) {
 }
 
 /// A writer that shows what was flushed, and can always be flushed.
-fn shown_writer(to: &Out) -> Held {
+pub fn shown_writer(to: &Out) -> Held {
     Held::new(to.alloc(), usize::MAX)
 }
 
 /// What was flushed.
-fn shown(held: &Held) -> &[u8] {
+pub fn shown(held: &Held) -> &[u8] {
     held.bytes.get(..held.shown).unwrap_or(&[])
 }
 
@@ -178,7 +151,7 @@ fn commanded<W: Write, E: Write>(
 }
 
 /// The argument AADHEX. `-` is the empty one, and `none` is none.
-fn aad_word(word: &str) -> Option<&str> {
+pub fn aad_word(word: &str) -> Option<&str> {
     match word {
         "none" => None,
         "-" => Some(""),
@@ -196,6 +169,13 @@ pub fn add_ended(to: &mut Out, status: u8, out: &[u8], err: &[u8]) {
         Ok(lines) => to.lines(lines),
         Err(_) => to.hex(err),
     }
+}
+
+/// Appends how many bytes of the input are left.
+pub fn add_left(to: &mut Out, left: usize) {
+    to.text("; ");
+    to.show(&left);
+    to.text(" left");
 }
 
 /// KEYS and AADHEX of the arguments of a command line.

@@ -1,6 +1,6 @@
 //! Calls of `callers`, by their names.
 use crate::out::{NoAnswer, Out};
-use crate::{checking, heads, items, keeping, relaying, signing};
+use crate::{asking, checking, heads, items, keeping, relaying, signing};
 
 /// What the call with this name returns.
 pub fn answer(to: &mut Out, name: &str, row: &mut &str) {
@@ -44,6 +44,12 @@ fn of_gate(to: &mut Out, name: &str, row: &mut &str) {
     match name {
         "relay" => relaying::run(to, row),
         "relay-once" => relaying::run_once(to, row),
+        "relay-twice" => relaying::run_twice(to, row),
+        "pass-good" => relaying::run_good(to, row),
+        "run-gated" => asking::gated(to, row),
+        "run-exact" => asking::exact(to, row),
+        "run-accepted" => asking::accepted(to, row),
+        "run-by-ids" => asking::by_ids(to, row),
         "is-tagged" => checking::is_tagged(to, row),
         "is-fed" => checking::is_fed(to, row),
         "program" => checking::program(to, row),

@@ -1,15 +1,10 @@
-//! Tests of `callers`, by its public names: a reader of std, values made by a macro, relays of what
-//! a relay wrote, faults, and messages and structures of COSE.
+//! Tests of `callers`, by its public names: values made by a macro, relays, what is known after a
+//! fault, and messages and structures of COSE. Others are rows of `conformance_gate`.
 use cose_gate::Counts;
 
-mod asking;
-mod checking;
-mod choosing;
 mod cose;
-mod faults;
 mod items;
-mod laws;
-mod twice;
+mod relays;
 
 /// 18([h'', {4: h'11'}, 'hi', h'01']), and the same with wide and open heads,
 /// 18([_ h'', {_ 4: h'11'}, (_ 'h', 'i'), h'01']), and 1.
@@ -19,10 +14,8 @@ const INPUT: [u8; 31] = [
 ];
 
 /// The message twice, in its shortest form.
-const BOTH: &[u8] = &[
-    0xd2, 0x84, 0x40, 0xa1, 0x04, 0x41, 0x11, 0x42, 0x68, 0x69, 0x41, 0x01, 0xd2, 0x84, 0x40, 0xa1,
-    0x04, 0x41, 0x11, 0x42, 0x68, 0x69, 0x41, 0x01,
-];
+const BOTH: &[u8] =
+    b"\xd2\x84\x40\xa1\x04\x41\x11\x42hi\x41\x01\xd2\x84\x40\xa1\x04\x41\x11\x42hi\x41\x01";
 
 /// The first message of the input.
 const ONE: &[u8] = &[

@@ -1,17 +1,12 @@
 //! How the tests compare.
+use cose_gate::{Entry, Verdict};
 use std::alloc::Global;
 use std::fmt::{Debug, Display};
 use std::process::Abort;
 
 /// Both are the same.
-pub fn same<T: PartialEq + Debug>(
-    rt: &impl Abort,
-    left: &T,
-    right: &T,
-    what: &str,
-    at: &impl Display,
-) {
-    assert_eq!(rt; *left, *right, "{what} of {at}");
+pub fn same<T: PartialEq + Debug>(rt: &impl Abort, left: &T, right: &T, at: &impl Display) {
+    assert_eq!(rt; *left, *right, "{at}");
 }
 
 /// Each value is equal to itself, and to no other one of the list.
@@ -19,15 +14,18 @@ pub fn all_differ<T: PartialEq>(rt: &impl Abort, values: &[T], what: &str) {
     for (index, one) in values.iter().enumerate() {
         for (other_index, other) in values.iter().enumerate() {
             let is_same = index == other_index;
-            assert!(rt;
-                (*one == *other) == is_same,
-                "{what} {index} and {other_index}"
-            );
-            assert!(rt;
-                (*one != *other) != is_same,
-                "{what} {index} and {other_index}"
-            );
+            let is_so = (*one == *other) == is_same && (*one != *other) != is_same;
+            assert!(rt; is_so, "{what} {index} and {other_index}");
         }
+    }
+}
+
+/// What is noted of an item.
+pub fn entry(number: usize, offset: usize, verdict: Verdict) -> Entry {
+    Entry {
+        number,
+        offset,
+        verdict,
     }
 }
 

@@ -1,8 +1,7 @@
 //! Values that differ aren't equal, for types of whose equality no law speaks.
-use crate::checks::all_differ;
+use crate::checks::{all_differ, entry};
 use cose_gate::{
-    Asked, CoseError, Counts, Entry, GateFault, InputFault, MessageKind, Refusal, StreamFault,
-    Verdict, de,
+    Asked, CoseError, Counts, GateFault, InputFault, MessageKind, Refusal, StreamFault, Verdict, de,
 };
 use std::alloc::Global;
 use std::process::Abort;
@@ -65,51 +64,22 @@ const VERDICTS: &[Verdict] = &[
     Verdict::Refused(Refusal::Encrypted),
 ];
 
-/// An entry, and each that differs from it in one part.
-const ENTRIES: &[Entry] = &[
-    Entry {
-        number: 1,
-        offset: 0,
-        verdict: Verdict::Passed,
-    },
-    Entry {
-        number: 2,
-        offset: 0,
-        verdict: Verdict::Passed,
-    },
-    Entry {
-        number: 1,
-        offset: 1,
-        verdict: Verdict::Passed,
-    },
-    Entry {
-        number: 1,
-        offset: 0,
-        verdict: Verdict::Refused(Refusal::NotTagged),
-    },
-];
-
-const COUNTS: &[Counts] = &[
-    Counts {
-        passed: 1,
-        refused: 1,
-    },
-    Counts {
-        passed: 2,
-        refused: 1,
-    },
-    Counts {
-        passed: 1,
-        refused: 2,
-    },
-];
+fn counts(passed: usize, refused: usize) -> Counts {
+    Counts { passed, refused }
+}
 
 #[test]
 fn what_is_noted_differs(rt: HostRuntime) {
+    let entries = [
+        entry(1, 0, Verdict::Passed),
+        entry(2, 0, Verdict::Passed),
+        entry(1, 1, Verdict::Passed),
+        entry(1, 0, Verdict::Refused(Refusal::NotTagged)),
+    ];
     all_differ(&rt, REFUSALS, "refusals");
     all_differ(&rt, VERDICTS, "verdicts");
-    all_differ(&rt, ENTRIES, "entries");
-    all_differ(&rt, COUNTS, "counts");
+    all_differ(&rt, &entries, "entries");
+    all_differ(&rt, &[counts(1, 1), counts(2, 1), counts(1, 2)], "counts");
 }
 
 #[test]
@@ -135,6 +105,9 @@ fn faults_differ(rt: HostRuntime) {
         StreamFault::Memory,
     ];
     all_differ(&rt, &faults, "faults of a check");
-    let faults = [InputFault::End, InputFault::Failed];
-    all_differ(&rt, &faults, "faults of the input");
+    all_differ(
+        &rt,
+        &[InputFault::End, InputFault::Failed],
+        "faults of the input",
+    );
 }

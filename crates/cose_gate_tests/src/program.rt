@@ -1,5 +1,5 @@
-//! Tests of the program over memory: readers and writers that fail, output that is flushed, a
-//! reader in blocks, and how the tags of examples/ were made.
+//! Tests of the program over memory: readers, writers and judges that fail, long outputs, a reader
+//! in blocks, and how the tags of examples/ were made.
 
 mod blocks;
 mod examples;

@@ -1,61 +1,15 @@
-//! A judge that goes by a signature's length, and one that counts.
+//! A judge that counts.
 use ciborium_ll::log::Log;
 use cose_gate_core::{About, Judge};
 use std::alloc::AllocError;
 
-/// Says yes to signatures of an even length alone. It takes no memory.
-#[derive(Drop)]
-pub struct Even {
-    pieces: Log<usize>,
-}
-
-impl Even {
-    /// A judge that was asked nothing yet.
-    pub fn new() -> Even {
-        Even { pieces: Log::new() }
-    }
-}
-
-impl Judge for Even {
-    ghost use Rattle.std.specs.Bool.{nat_eq};
-    ghost use Rattle.std.specs.Prelude.{◌%◌, length};
-
-    ghost Who = { Unit {0} };
-
-    ghost Told = { Unit {0} };
-
-    ghost who = { λ _. tt };
-
-    ghost told = { λ _. tt };
-
-    ghost holds = { λ _ _ _. Unit {0} };
-
-    ghost pieces = { λ s. s.pieces.items };
-
-    ghost yes = { λ _ q. nat_eq (length q.signature % 2) 0 };
-
-    ghost decided = { λ told _. told };
-
-    fn begin(&mut self, _about: &About) -> Result<(), AllocError> {
-        self.pieces = Log::new();
-        Ok(())
-    }
-
-    fn feed(&mut self, piece: &[u8]) -> Result<(), AllocError> {
-        self.pieces = self.pieces.and(&piece.len());
-        Ok(())
-    }
-
-    fn decide(&mut self, signature: &[u8]) -> bool {
-        signature.len() % 2 == 0
-    }
-}
-
-/// Says yes to each signature, and counts what was begun and what was decided. It takes no memory.
+/// Says yes to each signature, and counts what was begun, fed and decided. It takes no memory.
 #[derive(Drop)]
 pub struct Counting {
     /// How many questions were begun.
     pub begun: usize,
+    /// How many bytes were fed.
+    pub fed: usize,
     /// How many were decided.
     pub decided: usize,
     pieces: Log<usize>,
@@ -66,6 +20,7 @@ impl Counting {
     pub fn new() -> Counting {
         Counting {
             begun: 0,
+            fed: 0,
             decided: 0,
             pieces: Log::new(),
         }
@@ -98,6 +53,7 @@ impl Judge for Counting {
     }
 
     fn feed(&mut self, piece: &[u8]) -> Result<(), AllocError> {
+        self.fed = self.fed.wrapping_add(piece.len());
         self.pieces = self.pieces.and(&piece.len());
         Ok(())
     }

@@ -21,7 +21,7 @@ fn value(rt: &impl Abort, alloc: Global) -> Value {
 }
 
 #[test]
-fn signed_messages_are_refilled(rt: HostRuntime) {
+fn messages_are_refilled(rt: HostRuntime) {
     let alloc = rt.alloc();
     let limits = Limits::default();
     let mut message = CoseSign1::new(alloc);
@@ -34,12 +34,6 @@ fn signed_messages_are_refilled(rt: HostRuntime) {
     let mut message = CoseSign::new(alloc);
     let refilled = sign_refilled(alloc, &mut message, value(&rt, alloc), limits);
     assert_eq!(rt; refilled, Ok(false));
-}
-
-#[test]
-fn tagged_messages_are_refilled(rt: HostRuntime) {
-    let alloc = rt.alloc();
-    let limits = Limits::default();
     let mut message = CoseMac0::new(alloc);
     let refilled = mac0_refilled(alloc, &mut message, value(&rt, alloc), limits);
     assert_eq!(rt; refilled, Ok(true));

@@ -1,6 +1,6 @@
 //! Memory that is refused to the judge, to the report, and to the run.
-use crate::checks::same;
-use crate::gate::seen::{Answer, Observed, answered, reached, whole};
+use crate::checks::{entry, same};
+use crate::gate::seen::{Answer, Observed, WAYS, Way, answered, reached, whole};
 use cose_gate::{Asked, End, Entry, GateFault, Mem, MessageKind, Recorder, Refusal, Verdict};
 use std::alloc::Global;
 use std::process::Abort;
@@ -19,29 +19,16 @@ pub const OUTPUT: &[u8] = &[
 ];
 
 /// What the signature of each covers.
-const STRUCTURE: &[u8] = &[
-    0x84, 0x6a, 0x53, 0x69, 0x67, 0x6e, 0x61, 0x74, 0x75, 0x72, 0x65, 0x31, 0x43, 0xa1, 1, 0x26,
-    0x40, 0x42, 0x68, 0x69,
-];
+const STRUCTURE: &[u8] = b"\x84\x6aSignature1\x43\xa1\x01\x26\x40\x42hi";
 
 /// What is noted of them.
-const NOTED: [Entry; 3] = [
-    Entry {
-        number: 1,
-        offset: 0,
-        verdict: Verdict::Passed,
-    },
-    Entry {
-        number: 2,
-        offset: 14,
-        verdict: Verdict::Refused(Refusal::NotTagged),
-    },
-    Entry {
-        number: 3,
-        offset: 15,
-        verdict: Verdict::Passed,
-    },
-];
+fn noted() -> [Entry; 3] {
+    [
+        entry(1, 0, Verdict::Passed),
+        entry(2, 14, Verdict::Refused(Refusal::NotTagged)),
+        entry(3, 15, Verdict::Passed),
+    ]
+}
 
 /// Whether the question is the one about each of the messages.
 fn is_expected(asked: &Asked) -> bool {
@@ -57,7 +44,7 @@ fn is_front(rt: &impl Abort, asked: &[Asked], written: &[u8], entries: &[Entry])
         assert!(rt; is_expected(question), "{question:?}");
     }
     assert!(rt; OUTPUT.starts_with(written), "{written:?}");
-    assert!(rt; NOTED.starts_with(entries), "{entries:?}");
+    assert!(rt; noted().starts_with(entries), "{entries:?}");
 }
 
 /// How far a run can be when there is no memory: how many questions, bytes and entries there are.
@@ -80,7 +67,7 @@ fn ends_at(rt: &impl Abort, answer: &Answer<End>, place: (usize, usize, usize)) 
     } else {
         Err(GateFault::Memory)
     };
-    same(rt, answer, &want, "answer", &"two messages");
+    same(rt, answer, &want, &"two messages");
     assert!(rt; PLACES.contains(&place), "{place:?}");
 }
 
@@ -94,69 +81,53 @@ fn item_after(noted: usize) -> (usize, usize) {
     }
 }
 
-/// All memory here is asked for by the run. So this holds also if one allocation is refused,
-/// whichever it is. Of the input no more was taken then than the item at hand.
-#[test]
-fn refused_memory_ends_the_run(rt: HostRuntime) {
-    let alloc = rt.alloc();
+/// Of the input no more was taken than the item at hand when there was no memory.
+fn ends_inside(rt: &impl Abort, alloc: Global, way: Way) {
     let mut memory = [0u8; 28];
     let mut out = Mem::new(&mut memory[..]);
-    let mut entries = Vec::new(alloc);
-    let mut recorder = Recorder::new(alloc, None);
-    let mut input = INPUT;
-    let answer = answered(
-        alloc,
-        &mut input,
-        &mut out,
-        &mut entries,
-        &[],
-        &mut recorder,
-    );
-    let taken = INPUT.len().saturating_sub(input.len());
-    let asked = recorder.asked();
+    let mut notes = Vec::new(alloc);
+    let mut judge = Recorder::new(alloc, None);
+    let mut rest = INPUT;
+    let answer = answered(alloc, way, &mut rest, &mut out, &mut notes, &[], &mut judge);
+    let taken = INPUT.len().saturating_sub(rest.len());
+    let asked = judge.asked();
     let written = out.as_written();
-    ends_at(&rt, &answer, (asked.len(), written.len(), entries.len()));
-    is_front(&rt, asked, written, &entries);
-    let (begin, end) = item_after(entries.len());
-    assert!(rt; begin <= taken && taken <= end, "{taken}");
+    ends_at(rt, &answer, (asked.len(), written.len(), notes.len()));
+    is_front(rt, asked, written, &notes);
+    let (begin, end) = item_after(notes.len());
+    assert!(rt; begin <= taken && taken <= end, "{way:?}: {taken}");
 }
 
-/// A run over this input, and how many bytes of it were taken; the judge and the report are each
-/// refused memory once, after so many calls.
-fn refused(
-    alloc: Global,
-    mut input: &[u8],
-    judge_calls: usize,
-    report_calls: usize,
-) -> (Observed<End>, usize) {
-    let length = input.len();
+/// All memory here is asked for by the runs. So this holds also if one allocation is refused,
+/// whichever it is (`scripts/fail-alloc.sh`).
+#[test]
+fn refused_memory_ends_the_run(rt: HostRuntime) {
+    for way in WAYS {
+        ends_inside(&rt, rt.alloc(), way);
+    }
+}
+
+/// A run by this call over this input, and how many bytes of it were taken; the judge and the
+/// report are each refused memory once, after so many calls.
+fn refused(alloc: Global, way: Way, input: &[u8], calls: (usize, usize)) -> (Observed<End>, usize) {
     let mut judge = Nth {
         inner: Recorder::new(alloc, None),
-        calls: judge_calls,
+        calls: calls.0,
     };
-    let mut report = Nth {
+    let mut notes = Nth {
         inner: Vec::new(alloc),
-        calls: report_calls,
+        calls: calls.1,
     };
     let mut out = Mem::new(Vec::new(alloc));
-    let answer = answered(alloc, &mut input, &mut out, &mut report, &[], &mut judge);
+    let mut rest = input;
+    let answer = answered(alloc, way, &mut rest, &mut out, &mut notes, &[], &mut judge);
     let seen = Observed {
         recorder: judge.inner,
         output: out.into_inner(),
-        entries: report.inner,
+        entries: notes.inner,
         answer,
     };
-    (seen, length.saturating_sub(input.len()))
-}
-
-/// A run over two messages with an integer between them comes so far, if there is no memory after
-/// so many calls. Of the input the items up to the one at hand were taken.
-fn is_refused(rt: &impl Abort, alloc: Global, calls: (usize, usize), want: (usize, usize, usize)) {
-    let (seen, taken) = refused(alloc, INPUT, calls.0, calls.1);
-    assert_eq!(rt; (calls, reached(&seen)), (calls, want));
-    assert_eq!(rt; taken, item_after(want.2).1);
-    ends_at(rt, &seen.answer, want);
-    is_front(rt, seen.recorder.asked(), &seen.output, &seen.entries);
+    (seen, input.len().saturating_sub(rest.len()))
 }
 
 /// How many calls of the judge and of the report come before there is no memory, and how far the
@@ -176,10 +147,28 @@ const REFUSALS: [((usize, usize), (usize, usize, usize)); 11] = [
     ((17, 3), (2, 28, 3)),
 ];
 
+/// A run by this call over two messages with an integer between them comes so far, if there is no
+/// memory after so many calls. Of the input the items up to the one at hand were taken.
+fn is_refused(
+    rt: &impl Abort,
+    alloc: Global,
+    way: Way,
+    calls: (usize, usize),
+    want: (usize, usize, usize),
+) {
+    let (seen, taken) = refused(alloc, way, INPUT, calls);
+    assert_eq!(rt; (way, calls, reached(&seen)), (way, calls, want));
+    assert_eq!(rt; taken, item_after(want.2).1);
+    ends_at(rt, &seen.answer, want);
+    is_front(rt, seen.recorder.asked(), &seen.output, &seen.entries);
+}
+
 #[test]
-fn memory_refused_to_the_judge_or_the_report_is_the_answer(rt: HostRuntime) {
-    for (calls, want) in &REFUSALS {
-        is_refused(&rt, rt.alloc(), *calls, *want);
+fn memory_refused_to_the_judge_or_the_report_is_the_answer_of_each_call(rt: HostRuntime) {
+    for way in WAYS {
+        for (calls, want) in &REFUSALS {
+            is_refused(&rt, rt.alloc(), way, *calls, *want);
+        }
     }
 }
 
@@ -190,10 +179,7 @@ const TWO: &[u8] = &[
 ];
 
 /// What its first signature covers: ['Signature', h'', h'a10126', h'', 'hi'].
-const COVERED: &[u8] = &[
-    0x85, 0x69, 0x53, 0x69, 0x67, 0x6e, 0x61, 0x74, 0x75, 0x72, 0x65, 0x40, 0x43, 0xa1, 1, 0x26,
-    0x40, 0x42, 0x68, 0x69,
-];
+const COVERED: &[u8] = b"\x85\x69Signature\x40\x43\xa1\x01\x26\x40\x42hi";
 
 /// Whether the question is the one about its first signature, h'00'.
 fn is_first(asked: &Asked) -> bool {
@@ -206,10 +192,10 @@ fn is_first(asked: &Asked) -> bool {
 /// A run over it in which there is no memory to the judge after so many calls asks so many
 /// questions, the first at most, and writes nothing.
 fn is_left(rt: &impl Abort, alloc: Global, calls: usize, asked: usize) {
-    let (seen, taken) = refused(alloc, TWO, calls, 3);
+    let (seen, taken) = refused(alloc, Way::Plain, TWO, (calls, 3));
     assert_eq!(rt; taken, TWO.len());
-    same(rt, &seen.answer, &Err(GateFault::Memory), "answer", &calls);
-    same(rt, &reached(&seen), &(asked, 0, 0), "place", &calls);
+    same(rt, &seen.answer, &Err(GateFault::Memory), &calls);
+    same(rt, &reached(&seen), &(asked, 0, 0), &calls);
     for question in seen.recorder.asked() {
         assert!(rt; is_first(question), "{question:?}");
     }

@@ -13,29 +13,21 @@ pub fn whole<E>(passed: usize, refused: usize) -> Answer<E> {
     Ok(Counts { passed, refused })
 }
 
-/// Which of the four calls of the gate makes a run.
+/// Which of the four calls of the gate makes a run. Those that take limits get the default ones.
 #[derive(Debug, Clone, Copy, PartialEq, Eq)]
 pub enum Way {
     Plain,
-    Within(Limits),
+    Within,
     Strict,
-    StrictWithin(Limits),
+    StrictWithin,
 }
 
-/// Each of the four calls, with the default limits if it takes some.
-pub fn ways() -> [Way; 4] {
-    let limits = Limits::default();
-    [
-        Way::Plain,
-        Way::Within(limits),
-        Way::Strict,
-        Way::StrictWithin(limits),
-    ]
-}
+/// Each of the four calls.
+pub const WAYS: [Way; 4] = [Way::Plain, Way::Within, Way::Strict, Way::StrictWithin];
 
 /// What a run by this call over this reader returns. It has no contract: so the gate's clauses are
 /// not proved over again in each test.
-pub fn answered_by<R: Read + Drop, W: Write, P: Report, J: Judge>(
+pub fn answered<R: Read + Drop, W: Write, P: Report, J: Judge>(
     alloc: Global,
     way: Way,
     reader: R,
@@ -44,27 +36,16 @@ pub fn answered_by<R: Read + Drop, W: Write, P: Report, J: Judge>(
     aad: &[u8],
     judge: &mut J,
 ) -> Answer<R::Error> {
+    let limits = Limits::default();
     let mut decoder = Decoder::from(reader);
     match way {
         Way::Plain => gate(alloc, &mut decoder, out, report, aad, judge),
-        Way::Within(limits) => gate_with(alloc, limits, &mut decoder, out, report, aad, judge),
+        Way::Within => gate_with(alloc, limits, &mut decoder, out, report, aad, judge),
         Way::Strict => gate_strict(alloc, &mut decoder, out, report, aad, judge),
-        Way::StrictWithin(limits) => {
+        Way::StrictWithin => {
             gate_strict_with(alloc, limits, &mut decoder, out, report, aad, judge)
         }
     }
-}
-
-/// The result of a run over what this reader gives.
-pub fn answered<R: Read + Drop, W: Write, P: Report, J: Judge>(
-    alloc: Global,
-    reader: R,
-    out: &mut W,
-    report: &mut P,
-    aad: &[u8],
-    judge: &mut J,
-) -> Answer<R::Error> {
-    answered_by(alloc, Way::Plain, reader, out, report, aad, judge)
 }
 
 /// What a run asked, wrote, noted and returned.
@@ -78,20 +59,12 @@ pub struct Observed<E> {
 
 /// A run by this call over what this reader gives, with a judge that says yes to each signature.
 pub fn run<R: Read + Drop>(alloc: Global, way: Way, reader: R) -> Observed<R::Error> {
-    let mut recorder = Recorder::new(alloc, None);
+    let mut judge = Recorder::new(alloc, None);
     let mut out = Mem::new(Vec::new(alloc));
     let mut entries = Vec::new(alloc);
-    let answer = answered_by(
-        alloc,
-        way,
-        reader,
-        &mut out,
-        &mut entries,
-        &[],
-        &mut recorder,
-    );
+    let answer = answered(alloc, way, reader, &mut out, &mut entries, &[], &mut judge);
     Observed {
-        recorder,
+        recorder: judge,
         output: out.into_inner(),
         entries,
         answer,

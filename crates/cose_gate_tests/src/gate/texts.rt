@@ -1,5 +1,4 @@
 //! Texts of faults, also of those that no input in memory leads to.
-use crate::checks::same;
 use cose_gate::{GateFault, SemanticKind, de};
 use std::alloc::Global;
 use std::process::Abort;
@@ -8,7 +7,7 @@ use test_tools::Broken;
 /// The fault has this text.
 fn reads(rt: &impl Abort, alloc: Global, fault: &GateFault<Broken>, text: &str) {
     let made = format!(in alloc; "{fault}").expect(rt, "no memory");
-    same(rt, &made.as_str(), &text, "text", &text);
+    assert_eq!(rt; made.as_str(), text);
 }
 
 /// Faults of decoding, and their texts. A failure of the reader is named by the reader's own text.
@@ -34,6 +33,4 @@ fn texts_of_faults(rt: HostRuntime) {
     }
     reads(&rt, alloc, &GateFault::Write, "write");
     reads(&rt, alloc, &GateFault::Memory, "memory");
-    let write: GateFault<Broken> = GateFault::Write;
-    assert!(rt; write != GateFault::Memory);
 }

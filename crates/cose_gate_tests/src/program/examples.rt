@@ -1,5 +1,6 @@
 //! The files of examples/: how their tags were made.
 use crate::checks::unhex;
+use crate::messages::TAGGED;
 use cose_gate::hmac_sha256;
 use coset::{CoseMac0Builder, HeaderBuilder, TaggedCborSerializable, iana};
 use std::alloc::Global;
@@ -27,12 +28,6 @@ fn message(rt: &impl Abort, alloc: Global, id: &[u8], key: &[u8]) -> Vec<u8> {
         .expect(rt, "bytes")
 }
 
-/// The message under this key is the one that these bytes in hex are.
-fn is_so(rt: &impl Abort, alloc: Global, id: &[u8], key: &[u8], text: &str) {
-    let wanted = unhex(rt, alloc, text);
-    assert!(rt; message(rt, alloc, id, key) == wanted);
-}
-
 #[test]
 fn tags_of_the_examples(rt: HostRuntime) {
     let alloc = rt.alloc();
@@ -40,19 +35,8 @@ fn tags_of_the_examples(rt: HostRuntime) {
     for (i, byte) in secret.iter_mut().enumerate() {
         *byte = (i & 0xff) as u8;
     }
-    is_so(
-        &rt,
-        alloc,
-        b"01",
-        &secret,
-        "d18443a10105a1044230314268695820\
-        527972be49f9fe431adcc9dfb65427a01778a584563a8cefe4dda1f702045f72",
-    );
-    is_so(
-        &rt,
-        alloc,
-        b"",
-        &[0],
-        "d18443a10105a0426869582081759be7e476df66f22e174ed1a25a0e0ab5498e5e6ca067ae32d075ae9ff56e",
-    );
+    let tagged = "d18443a10105a1044230314268695820\
+        527972be49f9fe431adcc9dfb65427a01778a584563a8cefe4dda1f702045f72";
+    assert!(rt; message(&rt, alloc, b"01", &secret) == unhex(&rt, alloc, tagged));
+    assert!(rt; message(&rt, alloc, b"", &[0]).as_slice() == TAGGED);
 }

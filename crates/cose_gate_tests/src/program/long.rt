@@ -1,26 +1,13 @@
 //! Output and records of many times what a first allocation holds.
-use crate::messages::{KEYS, MESSAGE, TAGGED};
+use crate::messages::{KEYS, MESSAGE, TAGGED, many};
 use cose_gate_records::{Choice, ask, check};
 use std::alloc::Global;
-use std::process::Abort;
-
-/// How many messages there are.
-const COUNT: usize = 2000;
 
 const CHOICE: Choice = Choice {
     nesting: 256,
     layers: 16,
     strict: false,
 };
-
-/// A message, so many times.
-fn many(rt: &impl Abort, alloc: Global, message: &[u8]) -> Vec<u8> {
-    let mut all = Vec::new(alloc);
-    for _ in 0..COUNT {
-        all.extend_from_slice(message).expect(rt, "memory");
-    }
-    all
-}
 
 /// The status and the length of the output. It has no contract: so those of the call are not proved
 /// over again in its caller.
@@ -37,7 +24,7 @@ fn asked(alloc: Global, input: &[u8], questions: &mut [u8]) -> (u32, usize) {
 
 #[test]
 fn a_long_output_is_written(rt: HostRuntime) {
-    let input = many(&rt, rt.alloc(), TAGGED);
+    let input = many(&rt, rt.alloc(), TAGGED, 2000);
     let mut out = Vec::from_elem(rt.alloc(), 0, input.len()).expect(&rt, "memory");
     let answer = checked(rt.alloc(), &input, out.as_mut_slice());
     assert_eq!(rt; answer, (0, input.len()));
@@ -47,7 +34,7 @@ fn a_long_output_is_written(rt: HostRuntime) {
 /// A record of `MESSAGE` has 100 bytes.
 #[test]
 fn long_records_are_told(rt: HostRuntime) {
-    let input = many(&rt, rt.alloc(), MESSAGE);
+    let input = many(&rt, rt.alloc(), MESSAGE, 2000);
     let mut questions = Vec::from_elem(rt.alloc(), 0, 200000).expect(&rt, "memory");
     let answer = asked(rt.alloc(), &input, questions.as_mut_slice());
     assert_eq!(rt; answer, (0, 200000));

@@ -1,5 +1,5 @@
 //! A judge begins no question about a message that isn't streamed.
-use crate::checks::{same, unhex};
+use crate::checks::unhex;
 use crate::stream::checks::checked;
 use std::alloc::Global;
 use std::process::Abort;
@@ -21,10 +21,9 @@ fn is_unbegun(rt: &impl Abort, alloc: Global, text: &str) {
     let mut buffer = [0; 8];
     let mut judge = Counting::new();
     let reader = message.as_slice();
-    let (answer, _) = checked(alloc, None, reader, &mut buffer, &[], &mut judge);
+    let answer = checked(alloc, None, reader, &mut buffer, &[], &mut judge);
     assert!(rt; answer.is_err());
-    let asked = (judge.begun, judge.decided);
-    same(rt, &asked, &(0, 0), "questions", &text);
+    assert_eq!(rt; (judge.begun, judge.decided), (0, 0), "{text}");
 }
 
 #[test]

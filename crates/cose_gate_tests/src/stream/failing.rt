@@ -1,14 +1,28 @@
 //! Readers that fail in mid-stream.
-use crate::checks::same;
-use crate::messages::MESSAGE;
 use crate::stream::checks::checked;
-use crate::stream::watching::Watcher;
 use cose_gate::{Limits, StreamFault, de};
 use std::alloc::Global;
 use std::process::Abort;
-use test_tools::{Broken, Source};
+use test_tools::{Broken, Counting, Source};
 
-/// A check stops if the reader fails, after so many bytes of the message, and nothing is decided.
+/// 18([h'a10126', {}, '0123456789', h'010203']).
+const TEN: &[u8] = b"\xd2\x84\x43\xa1\x01\x26\xa0\x4a0123456789\x43\x01\x02\x03";
+
+/// How many bytes the judge is fed of this message before its reader fails, after so many bytes:
+/// what is covered in front of the payload once the payload's title is there, and then each piece
+/// of four bytes as it comes, and the last one.
+fn fed_of(count: usize) -> usize {
+    match count {
+        0..=7 => 0,
+        8..=11 => 18,
+        12..=15 => 22,
+        16..=17 => 26,
+        _ => 28,
+    }
+}
+
+/// A check stops if the reader fails, after so many bytes of the message. The payload was fed while
+/// it was read, and nothing is decided.
 fn is_cut_off(
     rt: &impl Abort,
     alloc: Global,
@@ -16,35 +30,25 @@ fn is_cut_off(
     source: Source,
     count: usize,
 ) {
-    let mut buffer = [0; 1];
-    let mut watcher = Watcher::new(alloc);
-    let (answer, _) = checked(alloc, limits, source, &mut buffer, &[], &mut watcher);
+    let mut buffer = [0; 4];
+    let mut judge = Counting::new();
+    let answer = checked(alloc, limits, source, &mut buffer, &[], &mut judge);
     let broken = Err(StreamFault::Decode(de::Error::Io(Broken)));
-    same(rt, &answer, &broken, "answer", &count);
-    same(rt, &watcher.decisions, &0, "decisions", &count);
+    assert!(rt; answer == broken, "{count}");
+    assert_eq!(rt;
+        (count, judge.fed, judge.decided),
+        (count, fed_of(count), 0)
+    );
 }
 
 #[test]
-fn a_failed_read_is_the_answer(rt: HostRuntime) {
-    for count in 0..MESSAGE.len() {
-        let source = Source::fail_at(MESSAGE, count);
-        is_cut_off(&rt, rt.alloc(), None, source, count);
-    }
-}
-
-#[test]
-fn a_failed_read_is_the_answer_though_more_bytes_come(rt: HostRuntime) {
-    for count in 0..MESSAGE.len() {
-        let (front, more) = MESSAGE.split_at(count);
-        is_cut_off(&rt, rt.alloc(), None, Source::new(front, more), count);
-    }
-}
-
-#[test]
-fn a_failed_read_is_the_answer_within_limits(rt: HostRuntime) {
-    let limits = Some(Limits::default());
-    for count in 0..MESSAGE.len() {
-        let source = Source::fail_at(MESSAGE, count);
-        is_cut_off(&rt, rt.alloc(), limits, source, count);
+fn a_failed_read_is_the_answer_and_the_payload_was_fed_up_to_there(rt: HostRuntime) {
+    for limits in [None, Some(Limits::default())] {
+        for count in 0..TEN.len() {
+            is_cut_off(&rt, rt.alloc(), limits, Source::fail_at(TEN, count), count);
+            // a reader that would give more bytes after its fault
+            let (front, more) = TEN.split_at(count);
+            is_cut_off(&rt, rt.alloc(), limits, Source::new(front, more), count);
+        }
     }
 }
