@@ -1,5 +1,5 @@
 -- Keys are read in one way.
-use Rattle.std.proofs.Common.{◌≡◌, ℕ, suc, ◌<◌, ◌+◌, ◌^◌, List, [], ◌∷◌, ◌++◌, ◌==◌, Bool, true, false, length, take, drop, flat_map, refl, sym, ap, ◌∙◌, lit<, arith, append_assoc, length-append}
+use Rattle.std.proofs.Common.{◌≡◌, ℕ, suc, ◌<◌, ◌+◌, ◌^◌, List, [], ◌∷◌, ◌++◌, ◌==◌, Bool, true, false, length, take, drop, flat_map, refl, sym, ap, ◌∙◌, lit<, arith, length-append}
 use Rattle.std.proofs.lemmas.List.{append-nil, nil_from_length, take-append-drop}
 use Rattle.std.proofs.lemmas.Bool.Decides.{nat_tests}
 use Rattle.cose_gate_records.specs.Framing.{eight, framed}
@@ -23,23 +23,6 @@ no_number bytes r n h e =
 pub number_is : (bytes head rest : List ℕ) (n : ℕ) → head ≡ take 8 bytes → rest ≡ drop 8 bytes → eight n ≡ head → bytes ≡ eight n ++ rest
 number_is bytes head rest n hd rs is =
     sym (take-append-drop 8 bytes) ∙ (ap (λ (z : List ℕ). z ++ drop 8 bytes) (sym (is ∙ hd)) ∙ ap (λ (z : List ℕ). eight n ++ z) (sym rs))
-
--- fewer bytes come after the length than it says
-pub cut_short : (bytes rest p r : List ℕ) (n : ℕ) → length bytes < 2 ^ 64 → n < 2 ^ 64 → bytes ≡ eight n ++ rest → length rest < n → bytes ≡ framed p ++ r → ⊥
-cut_short bytes rest p r n h hn is few e =
-    let l : length bytes ≡ (8 + length p) + length r
-    = ap (λ (b : List ℕ). length b) e ∙ (length-append (framed p) r ∙ ap (λ (k : ℕ). k + length r) (length-framed p)) in
-    let w = same_numbered n (length p) rest (p ++ r) hn (omega (arith, l, h)) (sym is ∙ (e ∙ append_assoc (eight (length p)) p r)) in
-    let k : length rest ≡ length p + length r = ap (λ (b : List ℕ). length b) w.1 ∙ length-append p r in
-    let m : n ≡ length p = w.0 in
-    omega (arith, m, k, few)
-
--- as many as it says
-pub frame_is : (bytes rest piece more : List ℕ) (n : ℕ) → bytes ≡ eight n ++ rest → length piece ≡ n → piece ≡ take n rest → more ≡ drop n rest → bytes ≡ framed piece ++ more
-frame_is bytes rest piece more n is lp tk dr =
-    let whole : rest ≡ piece ++ more
-    = sym (take-append-drop n rest) ∙ (ap (λ (z : List ℕ). z ++ drop n rest) (sym tk) ∙ ap (λ (z : List ℕ). piece ++ z) (sym dr)) in
-    is ∙ (ap (λ (z : List ℕ). eight n ++ z) whole ∙ (ap (λ (k : ℕ). eight k ++ (piece ++ more)) (sym lp) ∙ sym (append_assoc (eight (length piece)) piece more)))
 
 kind_below : (k : MessageKind) → number_of k < 2 ^ 64
 kind_below kind.Sign1 = lit< tt

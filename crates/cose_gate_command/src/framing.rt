@@ -1,6 +1,6 @@
-//! Bytes after their length: eight bytes, the lowest first.
+//! Numbers in eight bytes, the lowest first.
 ghost use Rattle.std.specs.Prelude.{◌≡◌, ◌<◌, ◌^◌, ◌++◌, ℕ, List, MatchOption};
-ghost use Rattle.cose_gate_records.specs.Framing.{eight, framed};
+ghost use Rattle.cose_gate_records.specs.Framing.{eight};
 
 /// The number that eight bytes encode.
 fn number_of(bytes: [u8; 8]) -> u64
@@ -17,16 +17,4 @@ pub(crate) fn split_number(bytes: &[u8]) -> Option<(u64, &[u8])>
 {
     let (number, rest) = bytes.split_first_chunk::<8>()?;
     Some((number_of(*number), rest))
-}
-
-/// The first bytes that come after their length, and the rest; `None` if there are fewer bytes than
-/// that length.
-pub(crate) fn split_first(bytes: &[u8]) -> Option<(&[u8], &[u8])>
-    ensures { MatchOption result
-        ((piece rest : List ℕ) → bytes.now ≡ framed piece ++ rest → ⊥)
-        (λ p. bytes.now ≡ framed p.0.now ++ p.1.now) }
-{
-    let (length, rest) = split_number(bytes)?;
-    let (piece, rest) = rest.split_at_checked(length as usize)?;
-    Some((piece, rest))
 }

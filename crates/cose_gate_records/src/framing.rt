@@ -30,8 +30,9 @@ fn length_of(bytes: [u8; 8]) -> usize
     u64::from_le_bytes(bytes) as usize
 }
 
-/// Splits the first framed bytes off.
-fn split_first(bytes: &[u8]) -> Option<(&[u8], &[u8])>
+/// The first bytes that come after their length, and the rest; `None` if there are fewer bytes than
+/// that length. A length is eight bytes, the lowest first.
+pub fn split_first(bytes: &[u8]) -> Option<(&[u8], &[u8])>
     ensures { MatchOption result
         ((piece rest : List ℕ) → bytes.now ≡ framed piece ++ rest → ⊥)
         (λ p. bytes.now ≡ framed p.0.now ++ p.1.now) }

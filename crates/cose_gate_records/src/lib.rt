@@ -32,6 +32,7 @@ pub use crate::asker::Asker;
 pub use crate::asking::ask;
 pub use crate::checking::check;
 pub use crate::choice::Choice;
+pub use crate::framing::split_first;
 pub use crate::growing::Growing;
 pub use crate::headers::{has_algorithm, has_known_crit, key_id};
 pub use crate::nowhere::Nowhere;
