@@ -10,7 +10,7 @@ use Rattle.cose_gate_program.specs.Writing.{Wrote, WroteSince}
 use Rattle.cose_gate_program.specs.declared.telling.Notice.{Notice}
 use Rattle.cose_gate_program.proofs.Written.{wrote_then}
 use Rattle.cose_gate_command.specs.KeyFiles.{indented}
-use Rattle.cose_gate_command.specs.Said.{Adds, AreIndented, Among, SaidLines, SaysSince, is_line, shown}
+use Rattle.cose_gate_command.specs.Said.{Adds, AreIndented, SaidLines, SaysSince, is_line, shown}
 use Rattle.cose_gate_command.specs.Said.AreIndented.{none, one_more}
 use Rattle.cose_gate_command.specs.Said.Among.{nothing, line, more}
 

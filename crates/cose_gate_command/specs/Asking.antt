@@ -1,11 +1,10 @@
 -- How cose-ask ends.
-use Rattle.std.specs.Prelude.{◌≡◌, ◌<◌, ℕ, ◌+◌, List, [], ◌∷◌, ◌++◌, flat_map, Option, None, Some, Bool, true, false, Result, Ok, Err, if◌then◌else◌}
+use Rattle.std.specs.Prelude.{◌≡◌, ℕ, ◌+◌, List, [], flat_map, Option, None, Some, true, Result, Ok, Err}
 use Rattle.std.specs.Io.KnownBytes.{Appends}
 use Rattle.ciborium_ll.specs.Device.{AppendsFront}
 use Rattle.ciborium_ll.specs.declared.read.Read.{Ghosts as Reads}
 use Rattle.ciborium_ll.specs.declared.write.Write.{Ghosts as Writes}
 use Rattle.cose_gate_core.specs.Findings.{Bounds}
-use Rattle.cose_gate_core.specs.Questions.{Question}
 use Rattle.cose_gate_program.specs.Beginning.{aad_of}
 use Rattle.cose_gate_program.specs.Lines.{line_of, lines_of}
 use Rattle.cose_gate_program.specs.Program.{Devices}

@@ -1,5 +1,5 @@
 -- How cose-pass ends.
-use Rattle.std.specs.Prelude.{◌≡◌, ℕ, List, [], ◌∷◌, flat_map, get_or, Option, None, Some, Bool, true, false, Result, Ok, Err, ◌&&◌, nat_eq, nat_lt, length}
+use Rattle.std.specs.Prelude.{◌≡◌, ℕ, List, flat_map, get_or, Option, None, Some, Bool, true, false, Result, Ok, Err, ◌&&◌, nat_eq, nat_lt, length}
 use Rattle.ciborium_ll.specs.declared.write.Write.{Ghosts as Writes}
 use Rattle.cose_gate_core.specs.Findings.{Bounds}
 use Rattle.cose_gate_program.specs.Beginning.{aad_of}
@@ -8,7 +8,6 @@ use Rattle.cose_gate_program.specs.Telling.{RanTold, writes}
 use Rattle.cose_gate_records.specs.Framing.{framed}
 use Rattle.cose_gate_records.specs.Records.{is_among}
 use Rattle.cose_gate_command.specs.Arguments.{Arguments}
-use Rattle.cose_gate_command.specs.Asking.{IsNoAad}
 use Rattle.cose_gate_command.specs.Ends.{bounds_by}
 use Rattle.cose_gate_command.specs.declared.not_run.NotRun.{NotRun}
 use Rattle.cose_gate_command.specs.declared.not_run.NotRun.TheVariants as unrun
