@@ -1,13 +1,13 @@
 -- The payload that a message of a stated length carries, as an item.
 use Rattle.std.proofs.Common.{◌≡◌, ℕ, ◌+◌, inl, inr, List, [], ◌∷◌, ◌++◌, length, Option, None, Some, refl, sym, ap, subst, ◌∙◌, append_assoc, append-nil, arith}
-use Rattle.ciborium_ll.specs.declared.hdr.Header.TheVariants.{Tag, Bytes, Array}
-use Rattle.ciborium_ll.specs.Framing.{Any, whole}
+use Rattle.ciborium_ll.specs.declared.hdr.Header.TheVariants.{Bytes, Array}
+use Rattle.ciborium_ll.specs.Framing.{whole}
 use Rattle.ciborium_ll.specs.Title.{Title}
 use Rattle.ciborium_value.specs.Tree.{Tree, bytes, array, tag, Trees, no_trees, one_more, tree_count}
 use Rattle.ciborium_value.specs.View.{trees}
 use Rattle.ciborium.specs.Front.{Reads}
 use Rattle.ciborium.specs.Meaning.{meaning, meanings}
-use Rattle.ciborium.specs.Spelling.{Around, Spells, SpellsAll}
+use Rattle.ciborium.specs.Spelling.{Spells, SpellsAll}
 use Rattle.ciborium.proofs.Once.{once}
 use Rattle.ciborium.proofs.ReadLemmas.{meanings_parts}
 use Rattle.cose_gate.specs.Findings.{Bounds, IsJudged}
