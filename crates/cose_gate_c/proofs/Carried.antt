@@ -79,7 +79,8 @@ module _ (front : List ℕ) (size : ℕ) (s : Stated front size) where
       let means : meaning (tag s.number (array elements)) ≡ Some item = subst (λ (t : Tree). meaning t ≡ Some item) same.0 r.means in
       let under = tag_means s.number (meanings elements) item means in
       let parts = meant s.two s.payload s.signature under.0 s.are_two under.1 in
-      (parts.0, parts.1, parts.2, under.2 ∙ ap (λ z. tag s.number (array z)) parts.3)
+      let four : Trees = one_more parts.0 (one_more parts.1 (one_more (bytes s.payload) (one_more parts.2 no_trees))) in
+      (parts.0, parts.1, parts.2, under.2 ∙ ap (λ z. tag s.number (array z)) {y = four} parts.3)
 
 -- the content of the parts of a message that carries one is what is third among its elements
 content : (n k : ℕ) (u : Tree) (f : PartsFields) (Lasts : List (Tree → Type 0)) (a b d : Tree) (p q : List ℕ) → HasWhole n u f Lasts k
