@@ -1,13 +1,13 @@
 -- The payload that a message of a stated length carries, as an item.
 use Rattle.std.proofs.Common.{◌≡◌, ℕ, ◌+◌, inl, inr, List, [], ◌∷◌, ◌++◌, length, Option, None, Some, refl, sym, ap, subst, ◌∙◌, append_assoc, append-nil, arith}
-use Rattle.ciborium_ll.specs.declared.hdr.Header.TheVariants.{Tag, Bytes, Array}
-use Rattle.ciborium_ll.specs.Framing.{Any, whole}
+use Rattle.ciborium_ll.specs.declared.hdr.Header.TheVariants.{Bytes, Array}
+use Rattle.ciborium_ll.specs.Framing.{whole}
 use Rattle.ciborium_ll.specs.Title.{Title}
 use Rattle.ciborium_value.specs.Tree.{Tree, bytes, array, tag, Trees, no_trees, one_more, tree_count}
 use Rattle.ciborium_value.specs.View.{trees}
 use Rattle.ciborium.specs.Front.{Reads}
 use Rattle.ciborium.specs.Meaning.{meaning, meanings}
-use Rattle.ciborium.specs.Spelling.{Around, Spells, SpellsAll}
+use Rattle.ciborium.specs.Spelling.{Spells, SpellsAll}
 use Rattle.ciborium.proofs.Once.{once}
 use Rattle.ciborium.proofs.ReadLemmas.{meanings_parts}
 use Rattle.cose_gate.specs.Findings.{Bounds, IsJudged}
@@ -79,7 +79,8 @@ module _ (front : List ℕ) (size : ℕ) (s : Stated front size) where
       let means : meaning (tag s.number (array elements)) ≡ Some item = subst (λ (t : Tree). meaning t ≡ Some item) same.0 r.means in
       let under = tag_means s.number (meanings elements) item means in
       let parts = meant s.two s.payload s.signature under.0 s.are_two under.1 in
-      (parts.0, parts.1, parts.2, under.2 ∙ ap (λ z. tag s.number (array z)) parts.3)
+      let four : Trees = one_more parts.0 (one_more parts.1 (one_more (bytes s.payload) (one_more parts.2 no_trees))) in
+      (parts.0, parts.1, parts.2, under.2 ∙ ap (λ z. tag s.number (array z)) {y = four} parts.3)
 
 -- the content of the parts of a message that carries one is what is third among its elements
 content : (n k : ℕ) (u : Tree) (f : PartsFields) (Lasts : List (Tree → Type 0)) (a b d : Tree) (p q : List ℕ) → HasWhole n u f Lasts k
