@@ -117,7 +117,7 @@ enum {
   COSE_GATE_NO_FAULT = 0,
   COSE_GATE_NOT_TAGGED = 1, /* the bytes don't begin with a tag */
   COSE_GATE_OTHER_TAG = 2,  /* they begin with another tag than 17 and 18 */
-  COSE_GATE_SHAPE = 3,      /* no message of its tag: a wrong number of elements, an element of a wrong type, a header that is wrong or too deep */
+  COSE_GATE_SHAPE = 3,      /* no message of its tag: other than four elements, one of a wrong type, a header that is wrong or too deep */
   COSE_GATE_DETACHED = 4,   /* the message doesn't carry its payload */
   COSE_GATE_UNSIZED = 5,    /* the payload is a byte string in chunks */
   COSE_GATE_DECODE = 6,     /* the bytes are cut short or damaged, or nest too deep */

@@ -1,5 +1,6 @@
 /* image KEYS IMAGE..: whether each file begins with a COSE_Mac0 whose tag is good under one of the keys, how many bytes that takes, and which of
- * them are its payload. A file is mapped, and its payload is not copied. The status is the highest of the library's. Build and run: `bash scripts/c-library.sh image`. */
+ * them are its payload. A file is mapped, and its payload is not copied. The status is the highest of the library's. Build and run:
+ * `bash scripts/c-library.sh image`. */
 #define _POSIX_C_SOURCE 200809L
 #include "cose_gate.h"
 
