@@ -135,6 +135,7 @@ fn three(to: &mut Out, call: &str, first: &str, second: &str, third: &str) {
         "sign1-tbs-detached" => messages::sign1_covered_detached(to, first, second, third),
         "sign-tbs" => messages::sign_covered(to, first, second, third),
         "widest" => widest::written_back(to, first, second, third),
+        "refilled" => items::refilled(to, first, second, third),
         _ => to.refuse(NoAnswer::NoCall),
     }
 }

@@ -156,6 +156,35 @@ fn written<T: CborSerializable>(to: &mut Out, new: T) {
     to.made(new.to_vec(to.alloc()));
 }
 
+/// The item that is written of a message of some kind after another item is read into it; after a
+/// fault its text, and then that item.
+pub fn refilled(to: &mut Out, kind: &str, message: &str, item: &str) {
+    match kind {
+        "sign1" => filled(to, message, item, CoseSign1::fill),
+        "sign" => filled(to, message, item, CoseSign::fill),
+        "mac0" => filled(to, message, item, CoseMac0::fill),
+        "mac" => filled(to, message, item, CoseMac::fill),
+        _ => to.refuse(NoAnswer::NoArgument),
+    }
+}
+
+fn filled<T, F>(to: &mut Out, message: &str, item: &str, fill: F)
+where
+    T: CborSerializable,
+    F: FnOnce(&mut T, Global, Value, Limits) -> Result<(), CoseError>,
+    requires { F.IsAlwaysCallable fill }
+{
+    if let Some(mut message) = read::<T>(to, message) {
+        if let Some(value) = read::<Value>(to, item) {
+            if let Err(error) = fill(&mut message, to.alloc(), value, Limits::default()) {
+                to.failure(&error);
+                to.text(", then ");
+            }
+            written(to, message);
+        }
+    }
+}
+
 /// Whether a header has no field.
 pub fn is_empty_header(to: &mut Out, item: &str) {
     if let Some(header) = read::<Header>(to, item) {

@@ -1,49 +1,15 @@
-//! What the tests share: owned bytes and texts, what writing gives, how it is compared, and calls
-//! whose closure is watched.
-use coset::{CborSerializable, CoseError, Fault};
-use std::alloc::Global;
+//! What the tests share: how bytes are compared, closures, and calls whose closure is watched.
+use ciborium_value::Value;
+use coset_base::HeaderBuilder;
+use coset_headers::Header;
+use coset_labels::{CborSerializable, CoseError, Fault, TaggedCborSerializable, iana};
+use std::alloc::{AllocError, Global};
 use std::fmt::Debug;
 use std::process::Abort;
-
-/// This is so.
-pub fn holds(rt: &impl Abort, is_so: bool, what: &str) {
-    assert!(rt; is_so, "{what}");
-}
-
-/// These bytes in memory of their own.
-pub fn owned(rt: &impl Abort, alloc: Global, bytes: &[u8]) -> Vec<u8> {
-    bytes.to_vec(alloc).expect(rt, "memory")
-}
-
-/// This text in memory of its own.
-pub fn text(rt: &impl Abort, alloc: Global, text: &str) -> String {
-    String::from_str(alloc, text).expect(rt, "memory")
-}
 
 /// The bytes of which this is the hex.
 pub fn of_hex(rt: &impl Abort, alloc: Global, text: &str) -> Vec<u8> {
     hex::decode(alloc, text).expect(rt, "hex")
-}
-
-/// These bytes are the ones in hex.
-pub fn is_hex(rt: &impl Abort, alloc: Global, bytes: &[u8], want: &str) {
-    let got = hex::encode(alloc, bytes).expect(rt, "memory");
-    assert_eq!(rt; got.as_str(), want);
-}
-
-/// The bytes that this is written as.
-pub fn written<T: CborSerializable>(rt: &impl Abort, alloc: Global, it: T) -> Vec<u8> {
-    it.to_vec(alloc).expect(rt, "bytes")
-}
-
-/// This is written as these bytes in hex.
-pub fn writes<T: CborSerializable>(rt: &impl Abort, alloc: Global, it: T, want: &str) {
-    is_hex(rt, alloc, written(rt, alloc, it).as_slice(), want);
-}
-
-/// Both are the same.
-pub fn same<T: PartialEq + Debug>(rt: &impl Abort, got: &T, want: &T, what: &str) {
-    assert_eq!(rt; *got, *want, "{what}");
 }
 
 /// What was made are these bytes in hex.
@@ -54,7 +20,46 @@ pub fn gives<E: Debug + Drop>(
     want: &str,
 ) {
     let made = made.expect(rt, want);
-    is_hex(rt, alloc, made.as_slice(), want);
+    let got = hex::encode(alloc, made.as_slice()).expect(rt, "memory");
+    assert_eq!(rt; got.as_str(), want);
+}
+
+/// Whether it is written as these bytes.
+pub fn is_written<T: CborSerializable>(
+    alloc: Global,
+    it: T,
+    bytes: &[u8],
+) -> Result<bool, CoseError> {
+    let written = it.to_vec(alloc)?;
+    Ok(written.as_slice() == bytes)
+}
+
+/// Whether these bytes are read, and a copy is the same and is written as these bytes.
+pub fn is_written_back<T, C>(alloc: Global, bytes: &[u8], copy: C) -> Result<bool, CoseError>
+where
+    T: CborSerializable + PartialEq,
+    C: FnOnce(&T, Global) -> Result<T, AllocError>,
+    requires { C.IsAlwaysCallable copy }
+{
+    let read = T::from_slice(alloc, bytes)?;
+    let copied = copy(&read, alloc)?;
+    let is_same = copied == read;
+    let is_written = is_written(alloc, copied, bytes)?;
+    Ok(is_same && is_written)
+}
+
+/// Whether these bytes are read with a tag and written without one, that is written back, and read
+/// without a tag and written with one.
+pub fn is_tagged_back<T, C>(alloc: Global, bytes: &[u8], copy: C) -> Result<bool, CoseError>
+where
+    T: CborSerializable + TaggedCborSerializable + PartialEq,
+    C: FnOnce(&T, Global) -> Result<T, AllocError>,
+    requires { C.IsAlwaysCallable copy }
+{
+    let untagged = T::from_tagged_slice(alloc, bytes)?.to_vec(alloc)?;
+    let is_back = is_written_back::<T, C>(alloc, &untagged, copy)?;
+    let tagged = T::from_slice(alloc, &untagged)?.to_tagged_vec(alloc)?;
+    Ok(is_back && tagged.as_slice() == bytes)
 }
 
 /// Memory was enough for each call, or the result is that it was refused.
@@ -81,11 +86,57 @@ pub fn flat(answer: Result<bool, Met>) -> Result<bool, CoseError> {
 }
 
 /// 300 bytes: a plaintext or a payload, so that a closure which gives what it is handed gives more,
-/// or what a closure gives.
+/// or what a closure gives. In a message h'59012c' is in front of them.
 pub const LONG: &[u8] = &[7; 300];
 
+/// Whether these bytes are `LONG` between those.
+pub fn is_long_between(
+    alloc: Global,
+    bytes: &[u8],
+    front: &[u8],
+    back: &[u8],
+) -> Result<bool, CoseError> {
+    let mut all = front.to_vec(alloc)?;
+    all.extend_from_slice(LONG)?;
+    all.extend_from_slice(back)?;
+    Ok(all.as_slice() == bytes)
+}
+
+/// Whether a message is written in its tag as `LONG` between those.
+pub fn is_tagged_long<T: TaggedCborSerializable>(
+    alloc: Global,
+    message: T,
+    front: &[u8],
+    back: &[u8],
+) -> Result<bool, CoseError> {
+    let bytes = message.to_tagged_vec(alloc)?;
+    is_long_between(alloc, &bytes, front, back)
+}
+
+/// A header with this algorithm.
+pub fn with_algorithm(alloc: Global, algorithm: iana::Algorithm) -> Header {
+    HeaderBuilder::new(alloc).algorithm(algorithm).build()
+}
+
+/// A header that can't be written.
+pub fn repeated(rt: &impl Abort, alloc: Global) -> Header {
+    let builder = HeaderBuilder::new(alloc)
+        .value(100, Value::Null)
+        .expect(rt, "no memory");
+    builder
+        .value(100, Value::Null)
+        .expect(rt, "no memory")
+        .build()
+}
+
+/// The error of a part that is missing.
+pub const MISSING: CoseError = CoseError::UnexpectedItem("nothing", "a part");
+
+/// The error of a closure that fails, or that wants another signature or structure.
+pub const MISMATCH: CoseError = CoseError::UnexpectedItem("a signature", "another one");
+
 /// The error of a call that asked and then met a fault of its own, or returned the result of a
-/// closure that it hadn't asked.
+/// closure that it hadn't asked for what is due.
 const UNTRUE: CoseError = CoseError::UnexpectedItem("a call", "another one");
 
 /// What a call returns, after a check that its closure was asked exactly when the call met no
@@ -109,8 +160,126 @@ macro_rules! watched {
 
 pub(crate) use watched;
 
-/// A closure that gives these bytes, and tells that it was asked.
-pub fn give(made: Vec<u8>, asked: &mut bool) -> Vec<u8> {
+/// Which error there is for a part that is missing.
+pub fn missing() -> CoseError {
+    MISSING
+}
+
+/// A cipher or a verifier that fails.
+pub fn fails<T>(_first: &[u8], _second: &[u8]) -> Result<T, CoseError> {
+    Err(MISMATCH)
+}
+
+/// What a call returns whose signer gives what it is handed: `echoed!(BUILDER.CALL(alloc, ..))`.
+macro_rules! echoed {
+    ($builder:ident.$call:ident($alloc:ident $(, $word:expr)*)) => {
+        $crate::checks::watched!(
+            asked,
+            $builder.$call(
+                $alloc,
+                $($word,)*
+                move |data| $crate::checks::join($alloc, data, b"", asked),
+            )
+        )
+    };
+}
+
+pub(crate) use echoed;
+
+/// What a call returns whose signer can't fail, gives `LONG`, and is due to be handed a structure:
+/// `given!(BUILDER.CALL(alloc, ..), STRUCTURE)`.
+macro_rules! given {
+    ($builder:ident.$call:ident($alloc:ident $(, $word:expr)*), $structure:expr) => {{
+        let made = $crate::checks::LONG.to_vec($alloc)?;
+        $crate::checks::watched!(
+            asked,
+            $builder
+                .$call(
+                    $alloc,
+                    $($word,)*
+                    move |data| $crate::checks::give(made, data == $structure, asked),
+                )
+                .map_err(Fault::Cose)
+        )
+    }};
+}
+
+pub(crate) use given;
+
+/// What a call returns whose verifier is `equal`: `verified!(MESSAGE.CALL(alloc, ..))`.
+macro_rules! verified {
+    ($message:ident.$call:ident($($word:expr),*)) => {
+        $crate::checks::watched!(
+            asked,
+            $message.$call(
+                $($word,)*
+                move |signature, data| $crate::checks::equal(signature, data, asked),
+            )
+        )
+    };
+}
+
+pub(crate) use verified;
+
+/// What is met first: a missing part, then a header that can't be written, and then the error of a
+/// closure that fails.
+pub fn order() -> [Option<Met>; 3] {
+    [
+        Some(Fault::Caller(MISSING)),
+        Some(Fault::Cose(CoseError::DuplicateMapKey)),
+        Some(Fault::Caller(MISMATCH)),
+    ]
+}
+
+/// A call of a message whose part is missing, and whose protected header can't be written, meets
+/// faults in that order: `in_order!(rt, MESSAGE.PART, CALL)`.
+macro_rules! in_order {
+    ($rt:ident, $message:ident.$part:ident, $call:expr) => {{
+        let first = $call.err();
+        $message.$part = Some(Vec::new($rt.alloc()));
+        let second = $call.err();
+        $message.protected.header.rest.clear();
+        let third = $call.err();
+        assert_eq!($rt; [first, second, third], $crate::checks::order());
+    }};
+}
+
+pub(crate) use in_order;
+
+/// A verifier that wants a signature or a tag that is what it covers, and tells that it was asked.
+pub fn equal(signature: &[u8], data: &[u8], asked: &mut bool) -> Result<(), CoseError> {
     *asked = true;
+    if signature == data {
+        Ok(())
+    } else {
+        Err(MISMATCH)
+    }
+}
+
+/// Whether that verifier wanted another signature.
+pub fn is_mismatch(answer: Result<(), Met>) -> Result<bool, Met> {
+    match answer {
+        Ok(()) => Ok(false),
+        Err(Fault::Caller(error)) => Ok(error == MISMATCH),
+        Err(error) => Err(error),
+    }
+}
+
+/// A closure that gives these bytes, and tells whether it was asked for what is due.
+pub fn give(made: Vec<u8>, is_due: bool, asked: &mut bool) -> Vec<u8> {
+    *asked = is_due;
     made
+}
+
+/// Two byte strings, one after the other: what a closure was handed, which tells that it was asked.
+pub fn join(
+    alloc: Global,
+    first: &[u8],
+    second: &[u8],
+    asked: &mut bool,
+) -> Result<Vec<u8>, CoseError> {
+    *asked = true;
+    let mut all = first.to_vec(alloc)?;
+    all.extend_from_slice(second)?;
+    Ok(all)
 }

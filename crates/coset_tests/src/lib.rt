@@ -1,18 +1,10 @@
-//! Tests of COSE, by the public names of `coset`: values by builders, large values, copies, and
-//! messages, keys and claims together; and of the messages, by the crates that have them: what
-//! signers, verifiers and ciphers are handed, what is met first, and refused memory.
+//! Tests of COSE: values by builders, what signers, verifiers and ciphers are handed, what is met
+//! first, refused memory, and messages, keys and claims together. What a call answers for bytes is
+//! a row of `conformance_cose`.
 #![tactic(auto)]
 
 #[cfg(test)]
 mod checks;
-#[cfg(test)]
-mod claims;
-#[cfg(test)]
-mod headers;
-#[cfg(test)]
-mod kdf;
-#[cfg(test)]
-mod keys;
 #[cfg(test)]
 mod labels;
 #[cfg(test)]

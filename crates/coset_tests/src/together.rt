@@ -1,6 +1,8 @@
-//! Tests of messages, keys and claims together, as a user of `coset` writes them, and of memory
-//! that is refused to them.
+//! Tests of messages, keys and claims together, as a user of `coset` writes them; of values by
+//! builders, with memory that is enough and that is refused; of labels that stand twice, and of
+//! large maps.
 
+mod large;
 mod memory;
-mod signature;
 mod tokens;
+mod twice;

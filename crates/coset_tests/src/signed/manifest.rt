@@ -1,6 +1,6 @@
 //! A firmware manifest: a message with one signature, which covers an image that is carried
 //! elsewhere.
-use crate::checks::same;
+use crate::checks::of_hex;
 use coset_base::HeaderBuilder;
 use coset_labels::{Fault, TaggedCborSerializable, iana};
 use coset_signed::{CoseSign1, CoseSign1Builder};
@@ -43,14 +43,15 @@ impl Maker {
 /// What the signature covers beside the image.
 const PURPOSE: &[u8] = b"firmware";
 
-/// Checks an image against its manifest, which was read. The closure captures one reference,
-/// `maker`, and calls a method of it.
-fn check_message(
+/// Checks an image against its manifest. The closure captures one reference, `maker`, and calls a
+/// method of it.
+fn check_image(
     alloc: Global,
-    message: &CoseSign1,
+    manifest: &[u8],
     image: &[u8],
     maker: &Maker,
 ) -> Result<(), Fault<Refused>> {
+    let message = CoseSign1::from_tagged_slice(alloc, manifest)?;
     if message.payload.is_some() {
         Err(Fault::Caller(Refused::Attached))
     } else if message.protected.header.key_id.as_slice() != maker.key_id.as_slice() {
@@ -64,17 +65,6 @@ fn check_message(
             }
         })
     }
-}
-
-/// Checks an image against its manifest.
-fn check_image(
-    alloc: Global,
-    manifest: &[u8],
-    image: &[u8],
-    maker: &Maker,
-) -> Result<(), Fault<Refused>> {
-    let message = CoseSign1::from_tagged_slice(alloc, manifest)?;
-    check_message(alloc, &message, image, maker)
 }
 
 /// A maker with this name.
@@ -109,7 +99,7 @@ fn manifest_by(rt: &impl Abort, alloc: Global, signer: &Maker) -> Vec<u8> {
 #[test]
 fn an_image_is_checked_against_its_manifest(rt: HostRuntime) {
     let alloc = rt.alloc();
-    let attached = hex::decode(alloc, "d28440a04040").expect(&rt, "hex");
+    let attached = of_hex(&rt, alloc, "d28440a04040");
     let other = named(&rt, alloc, b"other");
     let maker = named(&rt, alloc, b"maker");
     let manifest = manifest_by(&rt, alloc, &maker);
@@ -125,5 +115,5 @@ fn an_image_is_checked_against_its_manifest(rt: HostRuntime) {
         Err(Fault::Caller(Refused::OtherKey)),
         Err(Fault::Caller(Refused::Attached)),
     ];
-    same(&rt, &answers, &want, "answers");
+    assert_eq!(rt; answers, want);
 }

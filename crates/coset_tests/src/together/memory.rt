@@ -1,36 +1,29 @@
-//! Calls of headers, keys, claims and contexts that ask for memory, with memory enough and with
-//! memory that is refused: they return `Memory` then. All memory is asked for in functions that
+//! Values that are read, copied and written, and values by builders, with memory enough and with
+//! memory that is refused: calls return `Memory` then. All memory is asked for in functions that
 //! return `Memory` themselves, so `refused_memory_is_the_answer_of_keys_and_claims` also holds if
-//! one allocation is refused, whichever it is.
-use crate::checks::may_be_refused;
-use coset::cbor::Value;
-use coset::cwt::{ClaimsSet, ClaimsSetBuilder};
+//! one allocation is refused, whichever it is. Expected bytes are written out by hand.
+use crate::checks::{is_written, is_written_back, may_be_refused};
+use coset::cbor::{Float, Value};
+use coset::cwt::{ClaimsSet, ClaimsSetBuilder, Timestamp};
 use coset::{
     CborSerializable, CoseError, CoseKdfContext, CoseKdfContextBuilder, CoseKey, CoseKeyBuilder,
-    CoseKeySet, CoseSignatureBuilder, Header, HeaderBuilder, RegisteredLabelWithPrivate, iana,
+    CoseKeySet, CoseSignature, CoseSignatureBuilder, Header, HeaderBuilder, KeyType, Nonce,
+    PartyInfo, PartyInfoBuilder, RegisteredLabelWithPrivate, SuppPubInfo, SuppPubInfoBuilder, iana,
 };
-use std::alloc::{AllocError, Global};
-use std::process::Abort;
+use std::alloc::Global;
 
 /// {1: -7, 2: [4, "abc"], 4: '11', 7: [h'', {}, h'01'], "a": 1}.
-const HEADER: &[u8] = &[
-    0xa5, 1, 0x26, 2, 0x82, 4, 0x63, 0x61, 0x62, 0x63, 4, 0x42, 0x31, 0x31, 7, 0x83, 0x40, 0xa0,
-    0x41, 1, 0x61, 0x61, 1,
-];
+const HEADER: &[u8] = b"\xa5\x01\x26\x02\x82\x04\x63abc\x04\x4211\x07\x83\x40\xa0\x41\x01\x61a\x01";
 
 /// {1: 2, 2: '11', 3: -7, 4: [1, 2], 5: h'01', -1: 1, "a": 0}.
-const KEY: &[u8] = &[
-    0xa7, 1, 2, 2, 0x42, 0x31, 0x31, 3, 0x26, 4, 0x82, 1, 2, 5, 0x41, 1, 0x20, 1, 0x61, 0x61, 0,
-];
+const KEY: &[u8] = b"\xa7\x01\x02\x02\x4211\x03\x26\x04\x82\x01\x02\x05\x41\x01\x20\x01\x61a\x00";
 
 /// [{1: 1}, {1: 4, -1: h'00'}].
-const KEYS: &[u8] = &[0x82, 0xa1, 1, 1, 0xa2, 1, 4, 0x20, 0x41, 0];
+const KEYS: &[u8] = b"\x82\xa1\x01\x01\xa2\x01\x04\x20\x41\x00";
 
 /// {1: "a", 4: 256, 7: h'0102', -70000: null, "a": null}.
-const CLAIMS: &[u8] = &[
-    0xa5, 1, 0x61, 0x61, 4, 0x19, 1, 0, 7, 0x42, 1, 2, 0x3a, 0, 1, 0x11, 0x6f, 0xf6, 0x61, 0x61,
-    0xf6,
-];
+const CLAIMS: &[u8] =
+    b"\xa5\x01\x61a\x04\x19\x01\x00\x07\x42\x01\x02\x3a\x00\x01\x11\x6f\xf6\x61a\xf6";
 
 /// [1, [h'01', h'02', h'03'], [h'04', -1, h'05'], [256, h'a10105', h'06'], h'01'].
 const CONTEXT: &[u8] = &[
@@ -38,93 +31,98 @@ const CONTEXT: &[u8] = &[
     0xa1, 1, 5, 0x41, 6, 0x41, 1,
 ];
 
-/// What is read, copied and written.
-trait Copied: CborSerializable + PartialEq {
-    /// A copy.
-    fn copied(&self, alloc: Global) -> Result<Self, AllocError>;
+/// A header by the calls that set fields. A partial IV takes the place of an IV.
+fn set_header(alloc: Global) -> Result<Header, CoseError> {
+    let content_type = String::from_str(alloc, "a/b")?;
+    let key_id = b"11".to_vec(alloc)?;
+    let iv = [9].to_vec(alloc)?;
+    let partial_iv = [8].to_vec(alloc)?;
+    Ok(
+        HeaderBuilder::new(alloc)
+            .algorithm(iana::Algorithm::A128GCM)
+            .content_type(content_type)
+            .key_id(key_id)
+            .iv(iv)
+            .partial_iv(partial_iv)
+            .build(),
+    )
 }
 
-impl Copied for Header {
-    fn copied(&self, alloc: Global) -> Result<Header, AllocError> {
-        self.clone(alloc)
-    }
+/// A header by the other calls that set these fields. An IV takes the place of a partial IV.
+fn other_header(alloc: Global) -> Result<Header, CoseError> {
+    let label = RegisteredLabelWithPrivate::Text(String::from_str(alloc, "x")?);
+    let partial_iv = [7].to_vec(alloc)?;
+    let iv = [8].to_vec(alloc)?;
+    Ok(
+        HeaderBuilder::new(alloc)
+            .algorithm_label(label)
+            .content_format(iana::CoapContentFormat::Json)
+            .partial_iv(partial_iv)
+            .iv(iv)
+            .build(),
+    )
 }
 
-impl Copied for CoseKey {
-    fn copied(&self, alloc: Global) -> Result<CoseKey, AllocError> {
-        self.clone(alloc)
-    }
-}
-
-impl Copied for CoseKeySet {
-    fn copied(&self, alloc: Global) -> Result<CoseKeySet, AllocError> {
-        self.clone(alloc)
-    }
-}
-
-impl Copied for ClaimsSet {
-    fn copied(&self, alloc: Global) -> Result<ClaimsSet, AllocError> {
-        self.clone(alloc)
-    }
-}
-
-impl Copied for CoseKdfContext {
-    fn copied(&self, alloc: Global) -> Result<CoseKdfContext, AllocError> {
-        self.clone(alloc)
-    }
-}
-
-/// Whether it is written as these bytes.
-fn is_written<T: CborSerializable>(alloc: Global, it: T, bytes: &[u8]) -> Result<bool, CoseError> {
-    let written = it.to_vec(alloc)?;
-    Ok(written.as_slice() == bytes)
-}
-
-/// Whether these bytes are read, and a copy is the same and is written as these bytes.
-fn is_written_back<T: Copied>(alloc: Global, bytes: &[u8]) -> Result<bool, CoseError> {
-    let read = T::from_slice(alloc, bytes)?;
-    let copy = read.copied(alloc)?;
-    let is_same = copy == read;
-    let is_written = is_written(alloc, copy, bytes)?;
-    Ok(is_same && is_written)
+/// A signature with each field.
+fn signature(alloc: Global) -> Result<CoseSignature, CoseError> {
+    let key_id = b"1".to_vec(alloc)?;
+    let bytes = [1, 2, 3].to_vec(alloc)?;
+    let protected = HeaderBuilder::new(alloc).algorithm(iana::Algorithm::ES256);
+    let unprotected = HeaderBuilder::new(alloc).key_id(key_id);
+    Ok(
+        CoseSignatureBuilder::new(alloc)
+            .protected(protected.build())
+            .unprotected(unprotected.build())
+            .signature(bytes)
+            .build(),
+    )
 }
 
 /// A header by the calls that append.
 fn header(alloc: Global) -> Result<Header, CoseError> {
     let label = RegisteredLabelWithPrivate::Text(String::from_str(alloc, "b")?);
     let name = String::from_str(alloc, "a")?;
+    let signature = signature(alloc)?;
     let builder = HeaderBuilder::new(alloc)
         .add_critical(iana::HeaderParameter::Kid)?
         .add_critical_label(label)?
-        .add_counter_signature(CoseSignatureBuilder::new(alloc).build())?
+        .add_critical_label(RegisteredLabelWithPrivate::PrivateUse(-65537))?
+        .add_counter_signature(CoseSignature::new(alloc))?
+        .add_counter_signature(signature)?
         .value(100, Value::Null)?
-        .text_value(name, Value::Null)?;
+        .text_value(name, Value::Bool(true))?;
     Ok(builder.build())
 }
 
-/// Whether it is written as {2: [4, "b"], 7: [h'', {}, h''], 100: null, "a": null}.
-fn is_built_header(alloc: Global) -> Result<bool, CoseError> {
-    let want = [
-        0xa4, 2, 0x82, 4, 0x61, 0x62, 7, 0x83, 0x40, 0xa0, 0x40, 0x18, 100, 0xf6, 0x61, 0x61, 0xf6,
-    ];
-    is_written(alloc, header(alloc)?, &want)
+/// A private key of two coordinates. Of an operation that is added twice there is one.
+fn private_key(alloc: Global) -> Result<CoseKey, CoseError> {
+    let x = [1].to_vec(alloc)?;
+    let y = [2].to_vec(alloc)?;
+    let d = [3].to_vec(alloc)?;
+    let key_id = [4].to_vec(alloc)?;
+    let base_iv = [5].to_vec(alloc)?;
+    let curve = iana::EllipticCurve::BrainpoolP256R1;
+    let builder = CoseKeyBuilder::new_ec2_priv_key(alloc, curve, x, y, d)?
+        .key_id(key_id)
+        .base_iv(base_iv)
+        .algorithm(iana::Algorithm::ES256)
+        .add_key_op(iana::KeyOperation::Verify)?
+        .add_key_op(iana::KeyOperation::Sign)?
+        .add_key_op(iana::KeyOperation::Verify)?
+        .param(6, Value::Null)?;
+    Ok(builder.build())
 }
 
+/// A key that was symmetric, and has another type then.
 fn key(alloc: Global) -> Result<CoseKey, CoseError> {
     let secret = [1, 2].to_vec(alloc)?;
+    let kty = KeyType::Text(String::from_str(alloc, "a")?);
     let builder = CoseKeyBuilder::new_symmetric_key(alloc, secret)?
+        .kty(kty)
         .algorithm(iana::Algorithm::HMAC_256_256)
         .add_key_op(iana::KeyOperation::MacCreate)?
         .param(-70000, Value::Null)?;
     Ok(builder.build())
-}
-
-/// Whether it is written as {1: 4, 3: 5, 4: [9], -1: h'0102', -70000: null}.
-fn is_built_key(alloc: Global) -> Result<bool, CoseError> {
-    let want = [
-        0xa5, 1, 4, 3, 5, 4, 0x81, 9, 0x20, 0x42, 1, 2, 0x3a, 0, 1, 0x11, 0x6f, 0xf6,
-    ];
-    is_written(alloc, key(alloc)?, &want)
 }
 
 /// With one more claim.
@@ -135,61 +133,125 @@ fn with_claim(builder: ClaimsSetBuilder) -> Result<ClaimsSetBuilder, CoseError> 
 
 fn claims(alloc: Global) -> Result<ClaimsSet, CoseError> {
     let name = String::from_str(alloc, "a")?;
-    let builder = with_claim(ClaimsSetBuilder::new(alloc))?
+    let time = Timestamp::FractionalSeconds(Float::Half(0x3e00));
+    let builder = with_claim(ClaimsSetBuilder::new(alloc).expiration_time(time))?
         .text_claim(name, Value::Null)?
         .private_claim(-70000, Value::Null)?;
     Ok(builder.build())
 }
 
-/// Whether it is written as {8: null, "a": null, -70000: null}.
-fn are_built_claims(alloc: Global) -> Result<bool, CoseError> {
-    let want = [
-        0xa3, 8, 0xf6, 0x61, 0x61, 0xf6, 0x3a, 0, 1, 0x11, 0x6f, 0xf6,
-    ];
-    is_written(alloc, claims(alloc)?, &want)
+/// A party with each field.
+fn party(alloc: Global) -> Result<PartyInfo, CoseError> {
+    let identity = [1].to_vec(alloc)?;
+    let nonce = [2].to_vec(alloc)?;
+    let other = [3].to_vec(alloc)?;
+    Ok(
+        PartyInfoBuilder::new(alloc)
+            .identity(identity)
+            .nonce(Nonce::Bytes(nonce))
+            .other(other)
+            .build(),
+    )
 }
 
+/// What both parties know, with each field.
+fn public_info(alloc: Global) -> Result<SuppPubInfo, CoseError> {
+    let other = [3].to_vec(alloc)?;
+    let protected = HeaderBuilder::new(alloc).algorithm(iana::Algorithm::A128GCM);
+    Ok(
+        SuppPubInfoBuilder::new(alloc)
+            .key_data_length(10)
+            .protected(protected.build())
+            .other(other)
+            .build(),
+    )
+}
+
+/// A context with each field.
 fn context(alloc: Global) -> Result<CoseKdfContext, CoseError> {
-    let info = [1].to_vec(alloc)?;
+    let first = party(alloc)?;
+    let second = PartyInfoBuilder::new(alloc).nonce(Nonce::Integer(-80));
+    let public_info = public_info(alloc)?;
+    let (a, b) = (b"A".to_vec(alloc)?, b"B".to_vec(alloc)?);
     let builder = CoseKdfContextBuilder::new(alloc)
         .algorithm(iana::Algorithm::A128GCM)
-        .add_supp_priv_info(info)?;
+        .party_u_info(first)
+        .party_v_info(second.build())
+        .supp_pub_info(public_info)
+        .add_supp_priv_info(a)?
+        .add_supp_priv_info(b)?;
     Ok(builder.build())
 }
 
-/// Whether it is written as [1, [null, null, null], [null, null, null], [0, h''], h'01'].
-fn is_built_context(alloc: Global) -> Result<bool, CoseError> {
-    let want = [
-        0x85, 1, 0x83, 0xf6, 0xf6, 0xf6, 0x83, 0xf6, 0xf6, 0xf6, 0x82, 0, 0x40, 0x41, 1,
-    ];
-    is_written(alloc, context(alloc)?, &want)
-}
+/// {1: 1, 3: "a/b", 4: '11', 6: h'08'}.
+const SET_HEADER: &[u8] = b"\xa4\x01\x01\x03\x63a/b\x04\x4211\x06\x41\x08";
+
+/// {1: "x", 3: 50, 5: h'08'}.
+const OTHER_HEADER: &[u8] = b"\xa3\x01\x61x\x03\x18\x32\x05\x41\x08";
+
+/// {2: [4, "b", -65537], 7: [[h'', {}, h''], [h'a10126', {4: '1'}, h'010203']], 100: null,
+/// "a": true}.
+const BUILT_HEADER: &[u8] = &[
+    0xa4, 2, 0x83, 4, 0x61, 0x62, 0x3a, 0, 1, 0, 0, 7, 0x82, 0x83, 0x40, 0xa0, 0x40, 0x83, 0x43,
+    0xa1, 1, 0x26, 0xa1, 4, 0x41, 0x31, 0x43, 1, 2, 3, 0x18, 100, 0xf6, 0x61, 0x61, 0xf5,
+];
+
+/// {1: 2, 2: h'04', 3: -7, 4: [1, 2], 5: h'05', -1: 256, -2: h'01', -3: h'02', -4: h'03', 6: null}.
+const PRIVATE_KEY: &[u8] = &[
+    0xaa, 1, 2, 2, 0x41, 4, 3, 0x26, 4, 0x82, 1, 2, 5, 0x41, 5, 0x20, 0x19, 1, 0, 0x21, 0x41, 1,
+    0x22, 0x41, 2, 0x23, 0x41, 3, 6, 0xf6,
+];
+
+/// {1: "a", 3: 5, 4: [9], -1: h'0102', -70000: null}.
+const BUILT_KEY: &[u8] =
+    b"\xa5\x01\x61a\x03\x05\x04\x81\x09\x20\x42\x01\x02\x3a\x00\x01\x11\x6f\xf6";
+
+/// {4: 1.5, 8: null, "a": null, -70000: null}.
+const BUILT_CLAIMS: &[u8] = b"\xa4\x04\xf9\x3e\x00\x08\xf6\x61a\xf6\x3a\x00\x01\x11\x6f\xf6";
+
+/// [1, [h'01', h'02', h'03'], [null, -80, null], [10, h'a10101', h'03'], 'A', 'B'].
+const BUILT_CONTEXT: &[u8] = &[
+    0x86, 1, 0x83, 0x41, 1, 0x41, 2, 0x41, 3, 0x83, 0xf6, 0x38, 79, 0xf6, 0x83, 10, 0x43, 0xa1, 1,
+    1, 0x41, 3, 0x41, 0x41, 0x41, 0x42,
+];
 
 /// What calls that read, copy and write return.
 fn of_bytes(alloc: Global) -> [Result<bool, CoseError>; 5] {
     [
-        is_written_back::<Header>(alloc, HEADER),
-        is_written_back::<CoseKey>(alloc, KEY),
-        is_written_back::<CoseKeySet>(alloc, KEYS),
-        is_written_back::<ClaimsSet>(alloc, CLAIMS),
-        is_written_back::<CoseKdfContext>(alloc, CONTEXT),
+        is_written_back(alloc, HEADER, Header::clone),
+        is_written_back(alloc, KEY, CoseKey::clone),
+        is_written_back(alloc, KEYS, CoseKeySet::clone),
+        is_written_back(alloc, CLAIMS, ClaimsSet::clone),
+        is_written_back(alloc, CONTEXT, CoseKdfContext::clone),
     ]
 }
 
+/// Whether what was built is written as these bytes.
+fn is_built<T: CborSerializable>(
+    alloc: Global,
+    built: Result<T, CoseError>,
+    bytes: &[u8],
+) -> Result<bool, CoseError> {
+    is_written(alloc, built?, bytes)
+}
+
 /// What calls of builders return.
-fn of_builders(alloc: Global) -> [Result<bool, CoseError>; 4] {
+fn of_builders(alloc: Global) -> [Result<bool, CoseError>; 7] {
     [
-        is_built_header(alloc),
-        is_built_key(alloc),
-        are_built_claims(alloc),
-        is_built_context(alloc),
+        is_built(alloc, set_header(alloc), SET_HEADER),
+        is_built(alloc, other_header(alloc), OTHER_HEADER),
+        is_built(alloc, header(alloc), BUILT_HEADER),
+        is_built(alloc, private_key(alloc), PRIVATE_KEY),
+        is_built(alloc, key(alloc), BUILT_KEY),
+        is_built(alloc, claims(alloc), BUILT_CLAIMS),
+        is_built(alloc, context(alloc), BUILT_CONTEXT),
     ]
 }
 
 #[test]
-fn memory_is_enough(rt: HostRuntime) {
+fn values_are_read_copied_built_and_written(rt: HostRuntime) {
     assert_eq!(rt; of_bytes(rt.alloc()), [Ok(true); 5]);
-    assert_eq!(rt; of_builders(rt.alloc()), [Ok(true); 4]);
+    assert_eq!(rt; of_builders(rt.alloc()), [Ok(true); 7]);
 }
 
 #[test]

@@ -1,9 +1,11 @@
-//! A token checker: claims as the payload of the signed message of `signature`.
-use crate::checks::{owned, text, written};
-use crate::together::signature::{AAD, Mismatch, sent, verifies};
+//! A token checker: claims as the payload of a signed message. The signer gives its data back, so
+//! that a signature is good if it is the data.
+use crate::checks::gives;
 use coset::cbor::Value;
 use coset::cwt::{ClaimsSet, ClaimsSetBuilder, Timestamp};
-use coset::{CborSerializable, CoseSign1, Fault};
+use coset::{
+    CborSerializable, ContentType, CoseSign1, CoseSign1Builder, Fault, HeaderBuilder, iana,
+};
 use std::alloc::Global;
 use std::process::Abort;
 
@@ -22,20 +24,24 @@ enum Refused {
     Claims,
 }
 
+/// The external data of the tokens.
+const AAD: &[u8] = b"this is additional data";
+
+/// Whether the signature is the data that it covers.
+fn verifies(alloc: Global, message: &CoseSign1, aad: &[u8]) -> Result<(), Fault<Refused>> {
+    message.verify_signature(alloc, aad, |signature, data| {
+        if signature == data {
+            Ok(())
+        } else {
+            Err(Refused::Signature)
+        }
+    })
+}
+
 fn is_over(time: &Option<Timestamp>, now: i64) -> bool {
     match time {
         Some(Timestamp::WholeSeconds(seconds)) => *seconds <= now,
         _ => true,
-    }
-}
-
-/// The message, if its signature is that of these external data.
-fn opened(alloc: Global, token: &[u8], aad: &[u8]) -> Result<CoseSign1, Fault<Refused>> {
-    let message = CoseSign1::from_slice(alloc, token)?;
-    match verifies(alloc, &message, aad) {
-        Ok(()) => Ok(message),
-        Err(Fault::Caller(Mismatch)) => Err(Fault::Caller(Refused::Signature)),
-        Err(Fault::Cose(error)) => Err(Fault::Cose(error)),
     }
 }
 
@@ -77,11 +83,22 @@ fn check_token(
     name: &str,
     now: i64,
 ) -> Result<ClaimsSet, Fault<Refused>> {
-    let message = opened(alloc, token, aad)?;
+    let message = CoseSign1::from_slice(alloc, token)?;
+    verifies(alloc, &message, aad)?;
     match carried(alloc, &message) {
         Ok(claims) => taken(claims, name, now).map_err(Fault::Caller),
         Err(refused) => Err(Fault::Caller(refused)),
     }
+}
+
+/// These bytes in memory of their own.
+fn owned(rt: &impl Abort, alloc: Global, bytes: &[u8]) -> Vec<u8> {
+    bytes.to_vec(alloc).expect(rt, "memory")
+}
+
+/// This text in memory of its own.
+fn text(rt: &impl Abort, alloc: Global, text: &str) -> String {
+    String::from_str(alloc, text).expect(rt, "memory")
 }
 
 fn claims(rt: &impl Abort, alloc: Global) -> ClaimsSet {
@@ -98,29 +115,60 @@ fn claims(rt: &impl Abort, alloc: Global) -> ClaimsSet {
         .build()
 }
 
-/// The token is refused for this reason.
-fn is_refused(
-    rt: &impl Abort,
-    alloc: Global,
-    (token, aad): (&[u8], &[u8]),
-    (name, now): (&str, i64),
-    want: Refused,
-) {
-    let fault = check_token(alloc, token, aad, name, now).err();
-    assert_eq!(rt; fault, Some(Fault::Caller(want)), "{name} {now}");
+/// A token with this payload, in bytes.
+fn sent(rt: &impl Abort, alloc: Global, payload: Vec<u8>) -> Vec<u8> {
+    let protected = HeaderBuilder::new(alloc)
+        .algorithm(iana::Algorithm::ES256)
+        .key_id(owned(rt, alloc, b"11"))
+        .build();
+    CoseSign1Builder::new(alloc)
+        .protected(protected)
+        .payload(payload)
+        .try_create_signature(alloc, AAD, |data| data.to_vec(alloc))
+        .expect(rt, "a signature")
+        .build()
+        .to_vec(alloc)
+        .expect(rt, "a token")
+}
+
+#[test]
+fn claims_are_built(rt: HostRuntime) {
+    let alloc = rt.alloc();
+    let want = "a8016361616102626262036163041901000519020006100744010203043a0001116f00";
+    gives(&rt, alloc, claims(&rt, alloc).to_vec(alloc), want);
 }
 
 #[test]
 fn a_token_is_refused_for_each_fault(rt: HostRuntime) {
     let alloc = rt.alloc();
-    let payload = written(&rt, alloc, claims(&rt, alloc));
+    let payload = claims(&rt, alloc).to_vec(alloc).expect(&rt, "bytes");
     let token = sent(&rt, alloc, payload);
     let read = check_token(alloc, &token, AAD, "aaa", 255);
     assert!(rt; read == Ok(claims(&rt, alloc)));
-    let signed = (token.as_slice(), AAD);
-    is_refused(&rt, alloc, signed, ("aaa", 256), Refused::Expired);
-    is_refused(&rt, alloc, signed, ("bbb", 255), Refused::Issuer);
-    let other: &[u8] = b"other data";
-    let unsigned = (token.as_slice(), other);
-    is_refused(&rt, alloc, unsigned, ("aaa", 255), Refused::Signature);
+    let faults = [
+        check_token(alloc, &token, AAD, "aaa", 256).err(),
+        check_token(alloc, &token, AAD, "bbb", 255).err(),
+        check_token(alloc, &token, b"other data", "aaa", 255).err(),
+    ];
+    let want = [
+        Some(Fault::Caller(Refused::Expired)),
+        Some(Fault::Caller(Refused::Issuer)),
+        Some(Fault::Caller(Refused::Signature)),
+    ];
+    assert_eq!(rt; faults, want);
+}
+
+#[test]
+fn a_signature_covers_received_bytes_and_no_unprotected_header(rt: HostRuntime) {
+    let alloc = rt.alloc();
+    let token = sent(&rt, alloc, owned(&rt, alloc, b"This is the content"));
+    let mut message = CoseSign1::from_slice(alloc, &token).expect(&rt, "a message");
+    message.unprotected.content_type = Some(ContentType::Text(text(&rt, alloc, "text/plain")));
+    let protected = &mut message.protected;
+    protected.header.content_type = Some(ContentType::Text(text(&rt, alloc, "text/plain")));
+    assert_eq!(rt; verifies(alloc, &message, AAD), Ok(()));
+    // without the received bytes the fields are covered
+    message.protected.original_data = None;
+    let other = Err(Fault::Caller(Refused::Signature));
+    assert_eq!(rt; verifies(alloc, &message, AAD), other);
 }
