@@ -159,30 +159,52 @@ fn written<T: CborSerializable>(to: &mut Out, new: T) {
 /// The item that is written of a message of some kind after another item is read into it; after a
 /// fault its text, and then that item.
 pub fn refilled(to: &mut Out, kind: &str, message: &str, item: &str) {
+    let Some(value) = read::<Value>(to, item) else {
+        return;
+    };
     match kind {
-        "sign1" => filled(to, message, item, CoseSign1::fill),
-        "sign" => filled(to, message, item, CoseSign::fill),
-        "mac0" => filled(to, message, item, CoseMac0::fill),
-        "mac" => filled(to, message, item, CoseMac::fill),
+        "sign1" => refill_sign1(to, message, value),
+        "sign" => refill_sign(to, message, value),
+        "mac0" => refill_mac0(to, message, value),
+        "mac" => refill_mac(to, message, value),
         _ => to.refuse(NoAnswer::NoArgument),
     }
 }
 
-fn filled<T, F>(to: &mut Out, message: &str, item: &str, fill: F)
-where
-    T: CborSerializable,
-    F: FnOnce(&mut T, Global, Value, Limits) -> Result<(), CoseError>,
-    requires { F.IsAlwaysCallable fill }
-{
-    if let Some(mut message) = read::<T>(to, message) {
-        if let Some(value) = read::<Value>(to, item) {
-            if let Err(error) = fill(&mut message, to.alloc(), value, Limits::default()) {
-                to.failure(&error);
-                to.text(", then ");
-            }
-            written(to, message);
-        }
+fn refill_sign1(to: &mut Out, message: &str, value: Value) {
+    if let Some(mut message) = read::<CoseSign1>(to, message) {
+        let filled = message.fill(to.alloc(), value, Limits::default());
+        show_filled(to, filled, message);
     }
+}
+
+fn refill_sign(to: &mut Out, message: &str, value: Value) {
+    if let Some(mut message) = read::<CoseSign>(to, message) {
+        let filled = message.fill(to.alloc(), value, Limits::default());
+        show_filled(to, filled, message);
+    }
+}
+
+fn refill_mac0(to: &mut Out, message: &str, value: Value) {
+    if let Some(mut message) = read::<CoseMac0>(to, message) {
+        let filled = message.fill(to.alloc(), value, Limits::default());
+        show_filled(to, filled, message);
+    }
+}
+
+fn refill_mac(to: &mut Out, message: &str, value: Value) {
+    if let Some(mut message) = read::<CoseMac>(to, message) {
+        let filled = message.fill(to.alloc(), value, Limits::default());
+        show_filled(to, filled, message);
+    }
+}
+
+fn show_filled<T: CborSerializable>(to: &mut Out, filled: Result<(), CoseError>, message: T) {
+    if let Err(error) = filled {
+        to.failure(&error);
+        to.text(", then ");
+    }
+    written(to, message);
 }
 
 /// Whether a header has no field.
