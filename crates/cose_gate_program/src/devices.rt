@@ -1,8 +1,9 @@
-//! The input with faults that hold nothing, so that std's own fault isn't moved through each call.
+//! The input and the output with faults that hold nothing, so that std's own fault isn't moved
+//! through each call.
 ghost use Rattle.std.specs.Prelude.{◌≡◌, ◌∷◌};
 ghost use Rattle.cose_gate_program.specs.Faults.{is_end};
 
-use ciborium_ll::Read;
+use ciborium_ll::{Read, Write};
 use thiserror::Error;
 
 /// Why bytes were not read.
@@ -24,6 +25,12 @@ pub struct OutputFault;
 #[derive(Drop)]
 pub(crate) struct Input<'a, R> {
     pub(crate) reader: &'a mut R,
+}
+
+/// The output.
+#[derive(Drop)]
+pub(crate) struct Output<'a, W> {
+    pub(crate) writer: &'a mut W,
 }
 
 /// The fault of an input that has ended, or failed.
@@ -69,5 +76,29 @@ impl<'a, R: Read> Read for Input<'a, R> {
         ensures { result ≡ is_end error.now }
     {
         matches!(error, InputFault::End)
+    }
+}
+
+impl<'a, W: Write> Write for Output<'a, W> {
+    type Error = OutputFault;
+
+    ghost written = { λ o. W.written o.writer.now };
+
+    ghost failed = { λ o. W.failed o.writer.now };
+
+    ghost handle = { λ o. o.writer.ghost_name ∷ W.handle o.writer.now };
+
+    fn write_all(&mut self, data: &[u8]) -> Result<(), OutputFault> {
+        match self.writer.write_all(data) {
+            Ok(()) => Ok(()),
+            Err(_) => Err(OutputFault),
+        }
+    }
+
+    fn flush(&mut self) -> Result<(), OutputFault> {
+        match self.writer.flush() {
+            Ok(()) => Ok(()),
+            Err(_) => Err(OutputFault),
+        }
     }
 }

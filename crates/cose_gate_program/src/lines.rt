@@ -243,7 +243,7 @@ fn write_last<W: Write>(text: &[u8], out: &mut W)
 }
 
 /// Hands on the lines that a writer holds back.
-fn hand_on<W: Write>(out: &mut W)
+pub fn hand_on<W: Write>(out: &mut W)
     ensures { (begun : Log W) (told : Log Notice) → WroteLines W.Write begun out.old told
         → WroteLines W.Write begun out.new told }
 {

@@ -15,7 +15,7 @@ ghost use Rattle.cose_gate_program.specs.Telling as spec;
 ghost use Rattle.cose_gate_program.specs.Telling.{Gated, RanTold, EndsTold, tells, writes};
 
 use crate::beginning::{begin, read_keys};
-use crate::devices::{Input, InputFault, OutputFault};
+use crate::devices::{Input, InputFault, Output, OutputFault};
 use crate::judge::HmacJudge;
 use crate::lines::{Lines, write_notice};
 use crate::telling::{Notice, Teller, Told};
@@ -95,7 +95,7 @@ fn gate_live<R: Read, W: Write, T: Teller, J: Judge>(
     }
 }
 
-/// The gate over an input with small faults, told item by item.
+/// The gate over input and output with small faults, told item by item.
 fn gate_told<R: Read, W: Write, T: Teller, J: Judge>(
     alloc: Global,
     terms: Terms,
@@ -114,8 +114,17 @@ fn gate_told<R: Read, W: Write, T: Teller, J: Judge>(
     ensures lent { W.handle out.new ≡ W.handle out.old }
 {
     let mut decoder = Decoder::from(Input { reader: input });
+    let mut output = Output { writer: out };
     let mut report = Told { teller };
-    gate_live(alloc, terms, aad, &mut decoder, out, &mut report, judge)
+    gate_live(
+        alloc,
+        terms,
+        aad,
+        &mut decoder,
+        &mut output,
+        &mut report,
+        judge,
+    )
 }
 
 /// The program's run with any judge: the gate over the input by these terms, with `aad` as external
