@@ -1,5 +1,6 @@
 //! The gate for C, and for languages that call C: over buffers that the caller owns. Each function
-//! calls that of `cose_gate_records`, the last one `streaming`. `include/cose_gate.h` declares them.
+//! calls one of `cose_gate_records`, and the last the module `streaming`. `include/cose_gate.h`
+//! declares them.
 #![tactic(auto)]
 
 ghost use Rattle.std.specs.Prelude.{◌≡◌};
@@ -85,8 +86,8 @@ pub extern "C" fn cose_gate_pass(
     pass(alloc, choice, accepted, aad, input, out, lines)
 }
 
-/// The streaming check of the COSE_Mac0 at the front of `message`, which is read in place, and where
-/// its payload is. What comes after it is not read.
+/// The streaming check of the COSE_Mac0 at the front of `message`, which is read in place, and
+/// where its payload is. What comes after it is not read.
 #[unsafe(no_mangle)]
 pub extern "C" fn cose_gate_stream_check(
     alloc: Global,
