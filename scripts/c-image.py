@@ -6,37 +6,26 @@ to fail under that. Status 1 if something differs. It needs python3's standard l
 import hashlib
 import hmac
 import os
+import pathlib
 import resource
 import subprocess
 import sys
 import tempfile
 
+sys.path.insert(0, str(pathlib.Path(__file__).resolve().parent.parent / "tools"))
+from cose_cbor import encode, head
+
 image, check = sys.argv[1:]
 SECRET = bytes(range(32))
 PROTECTED = bytes.fromhex("a10105")  # { 1 alg: 5 HMAC 256/256 }
-KEYS = bytes.fromhex("81a2010420") + b"\x58\x20" + SECRET  # [{ 1 kty: 4 symmetric, -1 k: the secret }]
-OTHER = bytes.fromhex("81a2010420") + b"\x58\x20" + bytes(32)
-
-
-def head(major, number):
-    """The shortest head of a major type and a number (RFC 8949, section 3)."""
-    for width, code in ((1, 24), (2, 25), (4, 26), (8, 27)):
-        if number < 24:
-            return bytes([major << 5 | number])
-        if number < 256**width:
-            return bytes([major << 5 | code]) + number.to_bytes(width, "big")
-    raise ValueError(number)
-
-
-def string(value):
-    return head(2, len(value)) + value
+KEYS = encode([{1: 4, -1: SECRET}])  # 1 kty: 4 symmetric, -1 k: the secret
+OTHER = encode([{1: 4, -1: bytes(32)}])
 
 
 def mac0(payload, tag=17, carried=None):
     """A message with its tag; `carried` is what is in the payload's place, if that isn't the payload."""
-    covered = head(4, 4) + head(3, 4) + b"MAC0" + string(PROTECTED) + string(b"") + string(payload)
-    mac = hmac.new(SECRET, covered, hashlib.sha256).digest()
-    return head(6, tag) + head(4, 4) + string(PROTECTED) + b"\xa0" + (carried or string(payload)) + string(mac)
+    mac = hmac.new(SECRET, encode(["MAC0", PROTECTED, b"", payload]), hashlib.sha256).digest()
+    return head(6, tag) + head(4, 4) + encode(PROTECTED) + b"\xa0" + (carried or encode(payload)) + encode(mac)
 
 
 count = 0

@@ -95,7 +95,7 @@ pub record ChecksFront (limits : Bounds) (allows : Question → Bool) (aad input
   pub ended : IsChecked limits allows aad input answer ⊎ IsStopped limits input answer
   pub stated : IsCheckedIfStated limits input answer
 
--- what the call comes to. The limits are looked at before the keys, and the keys before the message.
+-- what the call comes to: the limits are looked at before the keys, and the keys before the message
 pub data StreamChecks (nesting layers : ℕ) (keys aad input : List ℕ) (answer : StreamAnswer)
     : Type 0 where
   no_limits : (AreLimits nesting layers → ⊥) → IsUnchecked 2 0 answer

@@ -24,8 +24,8 @@ abbrev pub units : ℕ → ℕ → ℕ → ℕ
 units places zero fraction = fraction
 units places (suc exponent) fraction = (2 ^ places + fraction) * 2 ^ exponent
 
--- what a float is by its sign, an exponent of so many bits, and a fraction of so many. If all bits of
--- the exponent are ones, it is no finite number.
+-- what a float is by its sign, an exponent of so many bits, and a fraction of so many: no finite
+-- number, if all bits of the exponent are ones
 abbrev pub number : ℕ → ℕ → Bool → ℕ → ℕ → Amount
 number width places negative exponent fraction =
     if nat_eq exponent (2 ^ width - 1)
