@@ -167,6 +167,8 @@ rows() {
 124|one.cbor|item 1 at 0: passed|{ cat one.cbor; head -c 20 one.cbor; sleep 3; } | timeout 2 cose-gate keys.cbor 01
 124|one.cbor|item 1 at 0: passed|{ cat one.cbor; sleep 3; } | timeout 2 cose-gate --verbose keys.cbor 01
 124|one.cbor|item 1 at 0: passed|{ cat one.cbor; sleep 3; } | timeout 2 cose-pass $T/one.records 01
+124|$T/one.records|item 1 at 0: passed|{ cat one.cbor; sleep 3; } | timeout 2 cose-ask 01
+4||stopped: write|{ cat one.cbor one.cbor; sleep 3; } | timeout 2 cose-ask 01 > /dev/full
 END
   if (command -v openssl && command -v xxd && python3 -c 'import cryptography') > /dev/null 2>&1; then
     echo '0|||ASK=cose-ask PASS=cose-pass bash signatures/run.sh'

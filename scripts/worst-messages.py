@@ -12,18 +12,10 @@ import hmac
 import os
 import sys
 
+sys.path.insert(0, os.path.join(os.path.dirname(os.path.abspath(__file__)), "../tools"))
+from cose_cbor import encode as string, head
+
 SECRET = bytes(range(32))  # of the key "01" in examples/keys.cbor
-
-
-def head(major, n):
-    for width, code in ((0, n), (1, 24), (2, 25), (4, 26)):
-        if width == 0 and n < 24 or width and n < 1 << 8 * width:
-            return bytes([major << 5 | code]) + (n.to_bytes(width, "big") if width else b"")
-    raise ValueError(n)
-
-
-def string(content):
-    return head(2, len(content)) + content
 
 
 def nested(count, protected, begin=b""):

@@ -1,10 +1,11 @@
 //! Keys kept in their canonical encoding, and claims read. `coset` is the one crate that it names.
 ghost use Rattle.std.specs.Prelude.{◌≡◌, ◌↔◌, [], ℕ, List, IsTrue, IfOk, IfErr, OnErr, not};
-ghost use Rattle.std.specs.Prelude.{option_map, string_bytes};
+ghost use Rattle.std.specs.Prelude.{option_and_then, option_map, string_bytes};
 ghost use Rattle.std.specs.List.{list_any};
 ghost use Rattle.std.specs.Str.{bytes_eq};
 ghost use Rattle.coset.specs.Claims.{HasClaims};
 ghost use Rattle.coset.specs.ClaimsFields.{ClaimsFields};
+ghost use Rattle.coset.specs.ClaimsSeconds.{time_against};
 ghost use Rattle.coset.specs.Faults.{OrMemory};
 ghost use Rattle.coset.specs.KeyFields.{KeyFields};
 ghost use Rattle.coset.specs.Keys.{HasKey};
@@ -19,6 +20,7 @@ use coset::cwt::ClaimsSet;
 use coset::laws::keys::{key_reads_again, one_spelling};
 use coset::{CborOrdering, CborSerializable, CoseError, CoseKey};
 use std::alloc::Global;
+use std::cmp::Ordering;
 
 /// The key that the bytes are, with its entries in order.
 fn ordered(alloc: Global, bytes: &[u8]) -> Result<CoseKey, CoseError>
@@ -125,4 +127,25 @@ pub fn subject_of(alloc: Global, bytes: &[u8]) -> Result<Option<String>, CoseErr
 {
     let claims = ClaimsSet::from_slice(alloc, bytes)?;
     Ok(claims.subject)
+}
+
+/// How the expiry in the claims stands to a time in seconds, to the fraction: none if they have no
+/// expiry, or one that is no number.
+///
+/// # Errors
+/// A fault of the bytes, or `Memory`.
+pub fn expiry_against(
+    alloc: Global,
+    bytes: &[u8],
+    seconds: i64,
+) -> Result<Option<Ordering>, CoseError>
+    ensures ok { IfOk result (λ order. (c : ClaimsFields) × HasItem HasClaims bytes.now c
+        × (order ≡ option_and_then (λ time. time_against time seconds) c.expiration_time)) }
+    ensures err { IfErr result (OrMemory (WrongItem WrongClaims bytes.now)) }
+{
+    let claims = ClaimsSet::from_slice(alloc, bytes)?;
+    match claims.expiration_time {
+        Some(expiry) => Ok(expiry.partial_cmp_seconds(seconds)),
+        None => Ok(None),
+    }
 }

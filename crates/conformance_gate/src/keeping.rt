@@ -5,6 +5,7 @@ use callers::keeping::KeyStore;
 use ciborium_value::Value;
 use cose_gate::{CoseError, Header, iana};
 use coset_labels::CborSerializable;
+use std::cmp::Ordering;
 
 /// A header with the algorithm HMAC 256/256 and the key id that the next argument is.
 fn made(to: &mut Out, row: &mut &str) -> Header {
@@ -96,6 +97,19 @@ pub fn subject(to: &mut Out, row: &mut &str) {
     let claims = words::bytes(to, row);
     match callers::keeping::subject_of(to.alloc(), &claims) {
         Ok(Some(subject)) => to.text(subject.as_str()),
+        Ok(None) => to.text("none"),
+        Err(error) => to.not_read(error),
+    }
+}
+
+/// How the expiry of claims stands to a time in seconds.
+pub fn expiry(to: &mut Out, row: &mut &str) {
+    let seconds = words::number(to, row) as i64;
+    let claims = words::bytes(to, row);
+    match callers::keeping::expiry_against(to.alloc(), &claims, seconds) {
+        Ok(Some(Ordering::Less)) => to.text("less"),
+        Ok(Some(Ordering::Equal)) => to.text("equal"),
+        Ok(Some(Ordering::Greater)) => to.text("greater"),
         Ok(None) => to.text("none"),
         Err(error) => to.not_read(error),
     }

@@ -33,6 +33,7 @@ fn of_cose(to: &mut Out, name: &str, row: &mut &str) {
         "spelling" => keeping::spelling(to, row),
         "are-new" => keeping::are_new(to, row),
         "subject" => keeping::subject(to, row),
+        "expiry" => keeping::expiry(to, row),
         "signed" => signing::signed(to, row),
         "signed-payload" => signing::signed_payload(to, row),
         "tagged-payload" => signing::tagged_payload(to, row),

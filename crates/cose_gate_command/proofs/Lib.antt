@@ -1,12 +1,11 @@
+pub mod Arriving
 pub mod Endings
 pub mod Ends
-pub mod Handing
 pub mod HexDigits
 pub mod KeyFields
 pub mod Keys
 pub mod NotRuns
-pub mod Noted
 pub mod Reasons
-pub mod RecordLines
+pub mod RecordLine
 pub mod SaidLines
 pub mod Sending

@@ -67,12 +67,13 @@ Sent w out out' (Err e) text = (w.failed out' ≡ w.failed out + 1)
     × AppendsFront (w.written out) (w.written out') text
 
 abbrev pub Fails : {W F : Type 0} → Writes W F → W → W → NotRun → List ℕ → Type 0
-Fails w out out' unrun.Memory text = out' ≡ out
+Fails w out out' unrun.Memory text = (w.failed out' ≡ w.failed out)
+    × AppendsFront (w.written out) (w.written out') text
 Fails w out out' unrun.Output text =
     Sent {T = ℕ} {E = NotRun} w out out' (Err unrun.Output) text
 Fails w out out' why text = ⊥
 
--- the text was written; or the output failed; or nothing was written, out of memory
+-- the text was written; or a beginning of it, and then the output failed or it was out of memory
 abbrev pub Hands : {T W F : Type 0} → Writes W F → W → W → Result T NotRun → List ℕ → Type 0
 Hands w out out' (Ok s) text = Sent {E = NotRun} w out out' (Ok s) text
 Hands w out out' (Err why) text = Fails w out out' why text
@@ -93,8 +94,7 @@ IsStatus (Ok s) status = s ≡ status
 IsStatus (Err why) status = Unit {0}
 
 -- the gate ran over the input, with a judge that says yes to each question: the records of the
--- questions that were asked, or their lines, are handed out, after the lines of the items and
--- before the last one
+-- questions that were asked, or their lines, are handed out; the last line is written if all were
 abbrev pub Asked : {W F E G : Type 0} (w : Writes W F) (e : Writes E G) → Bounds → Form → List ℕ
     → Devices → Devices → W → W → E → E → Result ℕ NotRun → Type 0
 Asked w e limits form aad old new out out' err err' result = (status : ℕ)

@@ -10,3 +10,4 @@ pub mod Passing
 pub mod Read
 pub mod Said
 pub mod Waiting
+pub mod Written

@@ -1,6 +1,6 @@
 -- The lines of text that `cose-ask --lines` and `cose-ask --fields` write.
 use Rattle.std.specs.Prelude.{ℕ, List, [], ◌∷◌, ◌++◌, flat_map, codes, Bool, if◌then◌else◌}
-use Rattle.cose_gate_core.specs.Questions.{Question}
+use Rattle.cose_gate_core.specs.Questions.{Question, Subject}
 use Rattle.cose_gate_core.specs.declared.about.MessageKind.{MessageKind}
 use Rattle.cose_gate_core.specs.declared.about.MessageKind.TheVariants as kind
 use Rattle.cose_gate_records.specs.Records.{texts_of, record_of}
@@ -47,6 +47,16 @@ abbrev pub told_as : Form → Question → List ℕ
 told_as form.Records q = record_of q
 told_as form.Lines q = question_line q
 told_as form.Fields q = fielded_line q
+
+-- what the line of a question about this subject says of its key
+abbrev pub fields_in : Form → Subject → List ℕ
+fields_in form.Records s = []
+fields_in form.Lines s = []
+fields_in form.Fields s = key_fields s
+
+-- what is told of a question: what its line says of its key, and its record
+abbrev pub parts_of : Form → Question → List ℕ × List ℕ
+parts_of form q = (fields_in form q.subject, record_of q)
 
 -- --fields writes lines too
 abbrev pub form_of : Bool → Bool → Form

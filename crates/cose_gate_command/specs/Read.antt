@@ -19,24 +19,3 @@ abbrev pub texts_read : ReadQuestion → List (List ℕ)
 texts_read q =
     q.protected.now ∷ q.unprotected.now ∷ q.signer_protected.now ∷ q.signer_unprotected.now
     ∷ q.recipients.now ∷ q.covered.now ∷ q.signature.now ∷ []
-
--- bytes are the records of questions, and a text is their lines
-abbrev pub AreLines : List ℕ → List ℕ → Type 0
-AreLines records text = (qs : List Question) × (records ≡ flat_map record_of qs)
-    × (text ≡ flat_map question_line qs)
-
--- the same with what the headers of each say of its key
-abbrev pub AreFielded : List (List ℕ) → List ℕ → List ℕ → Type 0
-AreFielded fields records text = (qs : List Question) × (records ≡ flat_map record_of qs)
-    × (fields ≡ map (λ q. key_fields q.subject) qs) × (text ≡ flat_map fielded_line qs)
-
--- what is handed out of records: they themselves, or their lines
-abbrev pub IsHanded : Layout → List ℕ → List ℕ → Type 0
-IsHanded Records records text = text ≡ records
-IsHanded Lines records text = AreLines records text
-IsHanded (Fields fields) records text = AreFielded (map string_bytes fields.now) records text
-
--- the records, or their lines
-abbrev pub IsWritten : Bool → List ℕ → List ℕ → Type 0
-IsWritten false records text = text ≡ records
-IsWritten true records text = AreLines records text

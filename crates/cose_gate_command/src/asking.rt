@@ -2,7 +2,6 @@
 ghost use Rattle.std.specs.Prelude.{◌≡◌, false, is_ok, map, string_bytes};
 ghost use Rattle.cose_gate_command.specs.Arguments as spec;
 ghost use Rattle.cose_gate_command.specs.Asking.{Asks, Asked, or_status, reading};
-ghost use Rattle.cose_gate_command.specs.Lines.{form_of};
 ghost use Rattle.cose_gate_command.specs.Waiting.{Held, last_line};
 ghost use Rattle.cose_gate_core.specs.Terms.{limits_of};
 ghost use Rattle.cose_gate_program.specs.Program.{hears};
@@ -10,25 +9,24 @@ ghost use Rattle.cose_gate_program.specs.Telling.{RanTold};
 ghost use Rattle.cose_gate_program.specs.Writing.{Wrote};
 
 use crate::ending::{Ending, end};
-use crate::lines::{Layout, write_plainly, write_questions};
 use crate::not_run::NotRun;
-use crate::noting::Noting;
 use crate::options::{Form, ask_arguments, read_aad};
+use crate::question_writer::{Begun, QuestionWriter};
 use ciborium_ll::log::Log;
 use ciborium_ll::{Read, Write};
 use cose_gate_core::Judge;
 use cose_gate_program::{Limits, Notice, Terms, run_told};
-use cose_gate_records::{Asker, Nowhere};
+use cose_gate_records::Nowhere;
 use std::alloc::Global;
 
-/// Runs the gate as these arguments ask, with a judge that says yes to each question and keeps its
-/// record. The records go to `out` once the input has ended, and the lines to `err`: the last one
-/// is written after the records. The status is that of the run.
+/// Runs the gate as these arguments ask, with a judge that says yes to each question and writes its
+/// record to `out`, and hands it on, before it goes on. The lines go to `err`. The status is that of
+/// the run.
 ///
 /// # Errors
-/// `Usage` and `NotHex`, before anything is read. `Output` if the records can't be written, and
-/// `Memory`, also if it was out of memory for a record, when none is written: then the lines have
-/// no last one.
+/// `Usage`, `NotHex` and `Memory`, before anything is read. `Output` if a record can't be written,
+/// and `Memory` if it was out of memory for one: those before it are written, no later one is asked
+/// for, and the lines have no last one.
 pub fn ask<R: Read, W: Write, E: Write>(
     alloc: Global,
     words: &[String],
@@ -77,55 +75,11 @@ fn ask_by<R: Read, W: Write, E: Write>(
     ensures kept { R.handle input.new ≡ R.handle input.old }
     ensures lent { W.handle out.new ≡ W.handle out.old }
 {
-    match form {
-        Form::Records => ask_plainly(alloc, terms, false, aad, input, out, err),
-        Form::Lines => ask_plainly(alloc, terms, true, aad, input, out, err),
-        Form::Fields => ask_with_fields(alloc, terms, aad, input, out, err),
-    }
-}
-
-/// Asks by these terms, and writes the records or their lines.
-fn ask_plainly<R: Read, W: Write, E: Write>(
-    alloc: Global,
-    terms: Terms,
-    as_lines: bool,
-    aad: &[u8],
-    input: &mut R,
-    out: &mut W,
-    err: &mut E,
-) -> Result<u8, NotRun>
-    ensures ran { Asked W.Write E.Write (limits_of terms) (form_of as_lines false) aad.now
-        (reading R.Read input.old) (reading R.Read input.new)
-        out.old out.new err.old err.new result }
-    ensures kept { R.handle input.new ≡ R.handle input.old }
-    ensures lent { W.handle out.new ≡ W.handle out.old }
-{
-    let mut asker = Asker::new(alloc);
-    let (status, last) = run_waiting(alloc, terms, aad, input, err, &mut asker);
-    let written = write_plainly(as_lines, asker.records(), out);
-    finish(status, written, &last, err)
-}
-
-/// The same with the fields of each question in its line.
-fn ask_with_fields<R: Read, W: Write, E: Write>(
-    alloc: Global,
-    terms: Terms,
-    aad: &[u8],
-    input: &mut R,
-    out: &mut W,
-    err: &mut E,
-) -> Result<u8, NotRun>
-    ensures ran { Asked W.Write E.Write (limits_of terms) Form.Fields aad.now
-        (reading R.Read input.old) (reading R.Read input.new)
-        out.old out.new err.old err.new result }
-    ensures kept { R.handle input.new ≡ R.handle input.old }
-    ensures lent { W.handle out.new ≡ W.handle out.old }
-{
-    let mut noting = Noting::new(alloc, Asker::new(alloc));
-    let (status, last) = run_waiting(alloc, terms, aad, input, err, &mut noting);
-    let layout = Layout::Fields(&noting.fields);
-    let written = write_questions(layout, noting.judge.records(), out);
-    finish(status, written, &last, err)
+    let mut begun = Begun::new(alloc);
+    let mut told = Log::new();
+    let mut writer = QuestionWriter::new(alloc, form, &mut begun, out, &mut told);
+    let (status, last) = run_waiting(alloc, terms, aad, input, err, &mut writer);
+    finish(status, writer.written, &last, err)
 }
 
 /// Writes the last line of a run, if its output was written, and returns its status then.

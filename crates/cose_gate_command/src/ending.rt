@@ -5,7 +5,9 @@ ghost use Rattle.cose_gate_program.specs.Writing.{WroteLines, WroteLines-prop, W
 
 use ciborium_ll::Write;
 use ciborium_ll::log::Log;
-use cose_gate_program::{GateFault, InputFault, Notice, Teller, write_logged, write_notice};
+use cose_gate_program::{
+    GateFault, InputFault, Notice, Teller, hand_on, write_logged, write_notice,
+};
 
 /// Writes the line of each item, and keeps the last line of the run.
 #[derive(Drop)]
@@ -95,5 +97,9 @@ impl<'a, W: Write> Teller for Ending<'a, W> {
             Some(last) => *self.last = Some(last),
             None => write_logged(notice, self.out, self.said),
         }
+    }
+
+    fn rest(&mut self) {
+        hand_on(self.out);
     }
 }

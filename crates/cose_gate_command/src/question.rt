@@ -30,8 +30,6 @@ pub(crate) struct Question<'a> {
     pub covered: &'a [u8],
     /// The signature or the MAC.
     pub signature: &'a [u8],
-    /// The record.
-    pub record: &'a [u8],
 }
 
 /// The kind of message with this tag.
@@ -48,20 +46,6 @@ fn kind_of(tag: u64) -> Option<MessageKind>
     }
 }
 
-/// The question of the first of these records, and the records after it; `None` if the bytes don't
-/// begin with a record.
-pub(crate) fn first_question(records: &[u8]) -> Option<(Question<'_>, &[u8])>
-    ensures { MatchOption result
-        ((kind : MessageKind) (texts : List (List ℕ)) (rest : List ℕ) → length texts ≡ 7
-        → records.now ≡ framed (key_with kind texts) ++ rest → ⊥)
-        (λ p. (p.0.record.now ≡ framed (key_with p.0.kind (texts_read p.0)))
-        × (records.now ≡ p.0.record.now ++ p.1.now)) }
-{
-    let (key, rest) = split_first(records)?;
-    let question = read_key(key, &records[..records.len() - rest.len()])?;
-    Some((question, rest))
-}
-
 /// The question of a whole record; `None` if the bytes are not exactly one record.
 pub(crate) fn read_question(record: &[u8]) -> Option<Question<'_>>
     ensures { MatchOption result
@@ -69,21 +53,20 @@ pub(crate) fn read_question(record: &[u8]) -> Option<Question<'_>>
         → record.now ≡ framed (key_with kind texts) → ⊥)
         (λ q. record.now ≡ framed (key_with q.kind (texts_read q))) }
 {
-    let (question, rest) = first_question(record)?;
+    let (key, rest) = split_first(record)?;
     if rest.is_empty() {
-        Some(question)
+        read_key(key)
     } else {
         None
     }
 }
 
-/// The question of a key, which this record has.
-fn read_key<'a>(key: &'a [u8], record: &'a [u8]) -> Option<Question<'a>>
-    ensures key { MatchOption result
+/// The question of a key.
+fn read_key(key: &[u8]) -> Option<Question<'_>>
+    ensures { MatchOption result
         ((kind : MessageKind) (texts : List (List ℕ)) → length texts ≡ 7
         → key.now ≡ key_with kind texts → ⊥)
         (λ q. key.now ≡ key_with q.kind (texts_read q)) }
-    ensures kept { MatchOption result (Unit {0}) (λ q. q.record.now ≡ «record».now) }
 {
     let (tag, rest) = split_number(key)?;
     let kind = kind_of(tag)?;
@@ -106,6 +89,5 @@ fn read_key<'a>(key: &'a [u8], record: &'a [u8]) -> Option<Question<'a>>
         recipients,
         covered,
         signature,
-        record,
     })
 }

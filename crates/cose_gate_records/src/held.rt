@@ -2,12 +2,13 @@
 ghost use Rattle.std.specs.Prelude.{◌≡◌, ◌++◌, ℕ, List, [], ◌∷◌, IfOk, OnOk, OnErr, length};
 ghost use Rattle.cose_gate_core.specs.Lent.{subject_of};
 ghost use Rattle.cose_gate_core.specs.Questions.{Subject};
-ghost use Rattle.cose_gate_records.specs.Framing.{key_by};
+ghost use Rattle.cose_gate_records.specs.Framing.{framed, key_by};
 ghost use Rattle.cose_gate_records.specs.Kept.{IsHeld, pieces_of};
 ghost use Rattle.cose_gate_records.specs.Order.{bytes_cmp};
 
 use crate::framing::{append, order_to, order_to_framed};
 use crate::front::front_of;
+use crate::text::length_of_key;
 use cose_gate_core::{About, Log};
 use std::alloc::{AllocError, Global};
 use std::cmp::Ordering;
@@ -15,7 +16,7 @@ use std::cmp::Ordering;
 /// What is held of a question: the front of its key, which says what it is about, and the covered
 /// bytes so far.
 #[derive(Drop)]
-pub(crate) struct Held {
+pub struct Held {
     pub(crate) front: Vec<u8>,
     pub(crate) covered: Vec<u8>,
     pub(crate) pieces: Log<usize>,
@@ -23,7 +24,7 @@ pub(crate) struct Held {
 
 impl Held {
     /// No question is held.
-    pub(crate) fn new(alloc: Global) -> Held {
+    pub fn new(alloc: Global) -> Held {
         Held {
             front: Vec::new(alloc),
             covered: Vec::new(alloc),
@@ -32,7 +33,10 @@ impl Held {
     }
 
     /// Begins a question, and forgets one that was begun.
-    pub(crate) fn begin(&mut self, alloc: Global, about: &About) -> Result<(), AllocError>
+    ///
+    /// # Errors
+    /// Only if out of memory.
+    pub fn begin(&mut self, alloc: Global, about: &About) -> Result<(), AllocError>
         ensures holds { OnOk result (IsHeld self.new (subject_of about.now) []) }
         ensures pieces { OnOk result (pieces_of self.new ≡ []) }
     {
@@ -43,7 +47,10 @@ impl Held {
     }
 
     /// Takes the next piece of the covered bytes.
-    pub(crate) fn feed(&mut self, piece: &[u8]) -> Result<(), AllocError>
+    ///
+    /// # Errors
+    /// Only if out of memory.
+    pub fn feed(&mut self, piece: &[u8]) -> Result<(), AllocError>
         ensures holds { OnOk result ((subject : Subject) (covered : List ℕ)
             → IsHeld self.old subject covered → IsHeld self.new subject (covered ++ piece.now)) }
         ensures pieces { OnOk result
@@ -55,16 +62,20 @@ impl Held {
         Ok(())
     }
 
-    /// The key of the question with this signature.
-    pub(crate) fn key(&self, alloc: Global, signature: &[u8]) -> Result<Vec<u8>, AllocError>
-        ensures { IfOk result (λ key. key.items
-            ≡ key_by self.now.front.items self.now.covered.items signature.now) }
+    /// The record of the question with this signature.
+    ///
+    /// # Errors
+    /// Only if out of memory.
+    pub fn record(&self, alloc: Global, signature: &[u8]) -> Result<Vec<u8>, AllocError>
+        ensures { IfOk result (λ record. record.items
+            ≡ framed (key_by self.now.front.items self.now.covered.items signature.now)) }
     {
-        let mut key = Vec::new(alloc);
-        key.extend_from_slice(&self.front)?;
-        append(&mut key, &self.covered)?;
-        append(&mut key, signature)?;
-        Ok(key)
+        let mut record = Vec::new(alloc);
+        record.extend_from_slice(&length_of_key(self, signature))?;
+        record.extend_from_slice(&self.front)?;
+        append(&mut record, &self.covered)?;
+        append(&mut record, signature)?;
+        Ok(record)
     }
 
     /// How this key compares with the key of the question with this signature, which is not built.

@@ -2,6 +2,7 @@
 ghost use Rattle.std.specs.Prelude.{◌≡◌, ◌++◌, []};
 ghost use Rattle.cose_gate_records.specs.Lines.{counted};
 
+use crate::text::logged;
 use ciborium_ll::log::Log;
 
 /// The length of all that was written. Which bytes these were only contracts say.
@@ -34,15 +35,4 @@ impl Tally {
             all: logged(self.all, text),
         }
     }
-}
-
-/// The history with these bytes after it. It does nothing at run time.
-fn logged(told: Log<u8>, text: &[u8]) -> Log<u8>
-    ensures { result.items ≡ told.items ++ text.now }
-{
-    let mut told = told;
-    for byte in text {
-        told = told.and(byte);
-    }
-    told
 }

@@ -3,7 +3,7 @@ ghost use Rattle.std.specs.Prelude.{◌≡◌, ◌++◌, OnOk, OnErr, length};
 ghost use Rattle.cose_gate_records.specs.Framing.{eight, framed, key_by};
 ghost use Rattle.cose_gate_records.specs.Kept.{told_of};
 
-use crate::framing::{append, eight};
+use crate::framing::eight;
 use crate::held::Held;
 use ciborium_ll::log::Log;
 use std::alloc::{AllocError, Global};
@@ -48,15 +48,12 @@ fn append_record(text: &mut Vec<u8>, held: &Held, signature: &[u8]) -> Result<()
         ++ framed (key_by held.now.front.items held.now.covered.items signature.now)) }
     ensures err { OnErr result («text».new.items ≡ «text».old.items) }
 {
-    let alloc = *text.allocator();
-    let key = held.key(alloc, signature)?;
-    let mut record = Vec::new(alloc);
-    append(&mut record, &key)?;
+    let record = held.record(*text.allocator(), signature)?;
     text.extend_from_slice(&record)
 }
 
-/// The history with the record of a question. It does nothing at run time.
-fn logged_record(told: Log<u8>, held: &Held, signature: &[u8]) -> Log<u8>
+/// This history with the record of a question, which isn't made. It does nothing at run time.
+pub fn logged_record(told: Log<u8>, held: &Held, signature: &[u8]) -> Log<u8>
     ensures { result.items ≡ told.items
         ++ framed (key_by held.now.front.items held.now.covered.items signature.now) }
 {
@@ -69,7 +66,7 @@ fn logged_record(told: Log<u8>, held: &Held, signature: &[u8]) -> Log<u8>
 }
 
 /// The length of a key in eight bytes, the lowest first.
-fn length_of_key(held: &Held, signature: &[u8]) -> [u8; 8]
+pub(crate) fn length_of_key(held: &Held, signature: &[u8]) -> [u8; 8]
     ensures { result ≡ eight (length
         (key_by held.now.front.items held.now.covered.items signature.now)) }
 {
@@ -86,7 +83,7 @@ fn low_eight(number: u128) -> [u8; 8]
 }
 
 /// The history with these bytes. It does nothing at run time.
-fn logged(told: Log<u8>, bytes: &[u8]) -> Log<u8>
+pub fn logged(told: Log<u8>, bytes: &[u8]) -> Log<u8>
     ensures { result.items ≡ told.items ++ bytes.now }
 {
     let mut told = told;

@@ -1,8 +1,6 @@
 //! What the judge of the program `cose-gate` answers, and why.
-use cose_gate_core::{
-    Asked, CoseError, Decoder, Entry, GateFault, Limits, Mem, MessageKind, Refusal, Terms, Verdict,
-    gate_by,
-};
+use crate::gated::{Comparing, gate_item};
+use cose_gate_core::{Asked, CoseError, MessageKind, Refusal, Verdict};
 use cose_gate_program::{CoseKeySet, HmacJudge};
 use cose_reasons::{KeyBook, OTHER_KIND, Question, Stop, reason};
 use coset_labels::TaggedCborSerializable;
@@ -69,25 +67,9 @@ fn judged(
     item: &[u8],
     judge: &mut HmacJudge<'_>,
 ) -> Result<Option<Verdict>, Stop> {
-    let mut decoder = Decoder::from(item);
-    let mut out = Mem::new(Vec::new(alloc));
-    let mut entries = Vec::<Entry>::new(alloc);
-    let terms = Terms {
-        limits: Limits::default(),
-        strict: false,
-    };
-    match gate_by(
-        alloc,
-        terms,
-        &mut decoder,
-        &mut out,
-        &mut entries,
-        aad,
-        judge,
-    ) {
-        Ok(_) => Ok(entries.as_slice().first().map(|entry| entry.verdict)),
-        Err(GateFault::Memory) => Err(Stop::Memory),
-        Err(GateFault::Write) => Err(Stop::Memory),
+    let mut out = Comparing::new(&[]);
+    match gate_item(alloc, aad, item, &mut out, judge)? {
+        Ok(verdict) => Ok(verdict),
         Err(_) => Ok(None),
     }
 }

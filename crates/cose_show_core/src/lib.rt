@@ -5,6 +5,7 @@
 mod asking;
 mod cut;
 mod damage;
+mod gated;
 mod looks;
 mod object;
 mod printer;

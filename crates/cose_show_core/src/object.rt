@@ -113,7 +113,7 @@ fn write_ruling<P: fmt::Write>(
     page: &mut Page<'_, P>,
 ) -> Result<bool, Stop> {
     let Item { offset, bytes, .. } = item;
-    let ruling = rule(alloc, request.aad, bytes)?;
+    let ruling = rule(alloc, request, asking.is_some(), bytes)?;
     write_verdict(&ruling, page);
     write_more(alloc, &ruling, bytes, page)?;
     if let Some(asking) = asking {
@@ -135,7 +135,7 @@ fn write_ruling<P: fmt::Write>(
 /// What is wrong in an item that is refused.
 fn write_more<P: fmt::Write>(
     alloc: Global,
-    ruling: &Ruling,
+    ruling: &Ruling<'_>,
     item: &[u8],
     page: &mut Page<'_, P>,
 ) -> Result<(), Stop> {
@@ -151,7 +151,7 @@ fn write_more<P: fmt::Write>(
     }
 }
 
-fn write_verdict<P: fmt::Write>(ruling: &Ruling, page: &mut Page<'_, P>) {
+fn write_verdict<P: fmt::Write>(ruling: &Ruling<'_>, page: &mut Page<'_, P>) {
     match &ruling.verdict {
         Ok(Some(Verdict::Passed)) => write!(page, ",\"gate\":\"passes if judged good\""),
         Ok(Some(Verdict::Refused(refusal))) => {
@@ -212,7 +212,7 @@ fn write_spelling<P: fmt::Write>(spelling: Spelling, offset: usize, page: &mut P
 fn write_questions<P: fmt::Write>(
     alloc: Global,
     look: Look,
-    ruling: &Ruling,
+    ruling: &Ruling<'_>,
     page: &mut Page<'_, P>,
 ) {
     write_name("covered", page);

@@ -1,12 +1,11 @@
 //! What the gate says of an item.
 use crate::asking::{Answer, Asking};
+use crate::gated::{Comparing, Counter, Outcome, gate_item};
 use crate::shape::wrong_part;
 use crate::show::{Item, Request};
 use cbor_diag::{Event, Excess, Fault, Page, Place, Step, Walk, first_excess};
 use ciborium_ll::Header;
-use cose_gate_core::{
-    Asked, Decoder, End, Entry, GateFault, Limits, Mem, Recorder, Refusal, Terms, Verdict, gate_by,
-};
+use cose_gate_core::{Asked, Recorder, Refusal, Verdict};
 use cose_notation::{Look, lacks_tag, write_string};
 use cose_reasons::Stop;
 use std::alloc::Global;
@@ -17,12 +16,15 @@ pub const UNTAGGED: &str = "COSE_Sign1 or COSE_Mac0";
 
 /// What the gate says of an item, if its judge says yes to each question.
 #[derive(Drop)]
-pub struct Ruling {
+pub struct Ruling<'a> {
     /// What was judged, or why the gate stops.
-    pub verdict: Result<Option<Verdict>, GateFault<End>>,
-    judge: Recorder,
-    /// What the gate writes.
-    written: Vec<u8>,
+    pub verdict: Outcome,
+    /// How many questions there are.
+    count: usize,
+    /// The questions, if they are asked for.
+    recorder: Option<Recorder>,
+    /// What the gate writes, beside the item.
+    written: Comparing<'a>,
 }
 
 /// How a message compares with its canonical encoding.
@@ -61,45 +63,44 @@ impl Form {
     }
 }
 
-/// Runs the gate over one item.
+/// Runs the gate over one item. The questions are kept if they are to be shown or answered.
 ///
 /// # Errors
 /// `Memory`.
-pub fn rule(alloc: Global, aad: &[u8], item: &[u8]) -> Result<Ruling, Stop> {
+pub fn rule<'a>(
+    alloc: Global,
+    request: Request<'_>,
+    answers: bool,
+    item: &'a [u8],
+) -> Result<Ruling<'a>, Stop> {
+    let mut written = Comparing::new(item);
+    if !answers && !request.questions {
+        let mut judge = Counter::new();
+        let verdict = gate_item(alloc, request.aad, item, &mut written, &mut judge)?;
+        return Ok(Ruling {
+            verdict,
+            count: judge.count,
+            recorder: None,
+            written,
+        });
+    }
     let mut judge = Recorder::new(alloc, None);
-    let mut decoder = Decoder::from(item);
-    let mut out = Mem::new(Vec::new(alloc));
-    let mut entries = Vec::<Entry>::new(alloc);
-    let terms = Terms {
-        limits: Limits::default(),
-        strict: false,
-    };
-    let gated = gate_by(
-        alloc,
-        terms,
-        &mut decoder,
-        &mut out,
-        &mut entries,
-        aad,
-        &mut judge,
-    );
-    let verdict = match gated {
-        Ok(_) => Ok(entries.as_slice().first().map(|entry| entry.verdict)),
-        Err(GateFault::Memory) => return Err(Stop::Memory),
-        Err(GateFault::Write) => return Err(Stop::Memory),
-        Err(fault) => Err(fault),
-    };
+    let verdict = gate_item(alloc, request.aad, item, &mut written, &mut judge)?;
     Ok(Ruling {
         verdict,
-        judge,
-        written: out.into_inner(),
+        count: judge.asked().len(),
+        recorder: Some(judge),
+        written,
     })
 }
 
-impl Ruling {
-    /// The questions.
+impl Ruling<'_> {
+    /// The questions, if they were kept.
     pub fn asked(&self) -> &[Asked] {
-        self.judge.asked()
+        match &self.recorder {
+            Some(recorder) => recorder.asked(),
+            None => &[],
+        }
     }
 
     /// How a message that may pass is encoded; none of any other item.
@@ -110,10 +111,9 @@ impl Ruling {
         if self.verdict != Ok(Some(Verdict::Passed)) {
             return Ok(None);
         }
-        if self.written.as_slice() == item {
+        let Some(place) = self.written.difference() else {
             return Ok(Some(Spelling::Shortest));
-        }
-        let place = first_other(self.written.as_slice(), item);
+        };
         match first_difference(alloc, item, place) {
             Ok(spelling) => Ok(Some(spelling)),
             Err(fault) => Err(Stop::of_fault(fault, 0)),
@@ -158,11 +158,6 @@ fn form_of(step: Step) -> Form {
     }
 }
 
-/// How many bytes two encodings share at their beginnings.
-fn first_other(a: &[u8], b: &[u8]) -> usize {
-    a.iter().zip(b.iter()).take_while(|(x, y)| x == y).count()
-}
-
 /// Shows what the gate would say of an item, if its judge said yes to each question, and says
 /// whether the gate stops at it.
 ///
@@ -195,7 +190,7 @@ fn show_ruling<P: fmt::Write>(
     page: &mut Page<'_, P>,
 ) -> Result<bool, Stop> {
     let Item { offset, bytes, .. } = item;
-    let ruling = rule(alloc, request.aad, bytes)?;
+    let ruling = rule(alloc, request, asking.is_some(), bytes)?;
     say_verdict(&ruling, page);
     say_more(alloc, &ruling, bytes, page)?;
     if let Some(asking) = asking {
@@ -214,8 +209,8 @@ fn show_ruling<P: fmt::Write>(
     Ok(ruling.verdict.is_err())
 }
 
-fn say_verdict<P: fmt::Write>(ruling: &Ruling, page: &mut Page<'_, P>) {
-    let asked = ruling.asked().len();
+fn say_verdict<P: fmt::Write>(ruling: &Ruling<'_>, page: &mut Page<'_, P>) {
+    let asked = ruling.count;
     match &ruling.verdict {
         Ok(Some(Verdict::Passed)) if asked == 1 => {
             page.write_str("  gate: passes if the judge says yes to 1 question\n")
@@ -235,7 +230,7 @@ fn say_verdict<P: fmt::Write>(ruling: &Ruling, page: &mut Page<'_, P>) {
 /// What is wrong in an item that is refused.
 fn say_more<P: fmt::Write>(
     alloc: Global,
-    ruling: &Ruling,
+    ruling: &Ruling<'_>,
     item: &[u8],
     page: &mut Page<'_, P>,
 ) -> Result<(), Stop> {

@@ -2,38 +2,38 @@ use Rattle.std.proofs.Common.{[], ◌∷◌}
 use Rattle.cose_gate_command.proofs.Keys as keys
 use Rattle.cose_gate_command.proofs.question.read_key.Goals as goal
 
-pub returns-in_err-kind-clause-key : goal.returns-in_err-kind-clause-key
-returns-in_err-kind-clause-key c = rw c.from_residual-in_err-kind.ensures
+pub returns-in_err-kind : goal.returns-in_err-kind
+returns-in_err-kind c = rw c.from_residual-in_err-kind.ensures
     (keys.no_kind c.args.key.now c.in_ok-tag.rest.now c.in_ok-tag.tag c.in_ok-tag.ensures.0 c.in_ok-tag.ensures.1 c.in_err-kind.ensures)
 
-pub returns-in_err-protected-clause-key : goal.returns-in_err-protected-clause-key
-returns-in_err-protected-clause-key c = rw c.from_residual-in_err-protected.ensures
+pub returns-in_err-protected : goal.returns-in_err-protected
+returns-in_err-protected c = rw c.from_residual-in_err-protected.ensures
     (keys.no_key c.args.key.now c.in_ok-tag.rest.now c.in_ok-tag.tag c.well_formed.0.0 c.in_ok-tag.ensures.0 c.in_ok-tag.ensures.1
     (keys.none_here 6 c.in_ok-tag.rest.now c.in_err-protected.ensures))
 
-pub returns-in_err-unprotected-clause-key : goal.returns-in_err-unprotected-clause-key
-returns-in_err-unprotected-clause-key c = rw c.from_residual-in_err-unprotected.ensures
+pub returns-in_err-unprotected : goal.returns-in_err-unprotected
+returns-in_err-unprotected c = rw c.from_residual-in_err-unprotected.ensures
     (keys.no_key c.args.key.now c.in_ok-tag.rest.now c.in_ok-tag.tag c.well_formed.0.0 c.in_ok-tag.ensures.0 c.in_ok-tag.ensures.1
     (keys.none_after 6 c.in_ok-tag.rest.now c.in_ok-protected.protected.now c.in_ok-protected.rest.now c.in_ok-protected.ensures
     (keys.none_here 5 c.in_ok-protected.rest.now c.in_err-unprotected.ensures)))
 
-pub returns-in_err-signer_protected-clause-key : goal.returns-in_err-signer_protected-clause-key
-returns-in_err-signer_protected-clause-key c = rw c.from_residual-in_err-signer_protected.ensures
+pub returns-in_err-signer_protected : goal.returns-in_err-signer_protected
+returns-in_err-signer_protected c = rw c.from_residual-in_err-signer_protected.ensures
     (keys.no_key c.args.key.now c.in_ok-tag.rest.now c.in_ok-tag.tag c.well_formed.0.0 c.in_ok-tag.ensures.0 c.in_ok-tag.ensures.1
     (keys.none_after 6 c.in_ok-tag.rest.now c.in_ok-protected.protected.now c.in_ok-protected.rest.now c.in_ok-protected.ensures
     (keys.none_after 5 c.in_ok-protected.rest.now c.in_ok-unprotected.unprotected.now c.in_ok-unprotected.rest.now c.in_ok-unprotected.ensures
     (keys.none_here 4 c.in_ok-unprotected.rest.now c.in_err-signer_protected.ensures))))
 
-pub returns-in_err-signer_unprotected-clause-key : goal.returns-in_err-signer_unprotected-clause-key
-returns-in_err-signer_unprotected-clause-key c = rw c.from_residual-in_err-signer_unprotected.ensures
+pub returns-in_err-signer_unprotected : goal.returns-in_err-signer_unprotected
+returns-in_err-signer_unprotected c = rw c.from_residual-in_err-signer_unprotected.ensures
     (keys.no_key c.args.key.now c.in_ok-tag.rest.now c.in_ok-tag.tag c.well_formed.0.0 c.in_ok-tag.ensures.0 c.in_ok-tag.ensures.1
     (keys.none_after 6 c.in_ok-tag.rest.now c.in_ok-protected.protected.now c.in_ok-protected.rest.now c.in_ok-protected.ensures
     (keys.none_after 5 c.in_ok-protected.rest.now c.in_ok-unprotected.unprotected.now c.in_ok-unprotected.rest.now c.in_ok-unprotected.ensures
     (keys.none_after 4 c.in_ok-unprotected.rest.now c.in_ok-signer_protected.signer_protected.now c.in_ok-signer_protected.rest.now c.in_ok-signer_protected.ensures
     (keys.none_here 3 c.in_ok-signer_protected.rest.now c.in_err-signer_unprotected.ensures)))))
 
-pub returns-in_err-recipients-clause-key : goal.returns-in_err-recipients-clause-key
-returns-in_err-recipients-clause-key c = rw c.from_residual-in_err-recipients.ensures
+pub returns-in_err-recipients : goal.returns-in_err-recipients
+returns-in_err-recipients c = rw c.from_residual-in_err-recipients.ensures
     (keys.no_key c.args.key.now c.in_ok-tag.rest.now c.in_ok-tag.tag c.well_formed.0.0 c.in_ok-tag.ensures.0 c.in_ok-tag.ensures.1
     (keys.none_after 6 c.in_ok-tag.rest.now c.in_ok-protected.protected.now c.in_ok-protected.rest.now c.in_ok-protected.ensures
     (keys.none_after 5 c.in_ok-protected.rest.now c.in_ok-unprotected.unprotected.now c.in_ok-unprotected.rest.now c.in_ok-unprotected.ensures
@@ -41,8 +41,8 @@ returns-in_err-recipients-clause-key c = rw c.from_residual-in_err-recipients.en
     (keys.none_after 3 c.in_ok-signer_protected.rest.now c.in_ok-signer_unprotected.signer_unprotected.now c.in_ok-signer_unprotected.rest.now c.in_ok-signer_unprotected.ensures
     (keys.none_here 2 c.in_ok-signer_unprotected.rest.now c.in_err-recipients.ensures))))))
 
-pub returns-in_err-covered-clause-key : goal.returns-in_err-covered-clause-key
-returns-in_err-covered-clause-key c = rw c.from_residual-in_err-covered.ensures
+pub returns-in_err-covered : goal.returns-in_err-covered
+returns-in_err-covered c = rw c.from_residual-in_err-covered.ensures
     (keys.no_key c.args.key.now c.in_ok-tag.rest.now c.in_ok-tag.tag c.well_formed.0.0 c.in_ok-tag.ensures.0 c.in_ok-tag.ensures.1
     (keys.none_after 6 c.in_ok-tag.rest.now c.in_ok-protected.protected.now c.in_ok-protected.rest.now c.in_ok-protected.ensures
     (keys.none_after 5 c.in_ok-protected.rest.now c.in_ok-unprotected.unprotected.now c.in_ok-unprotected.rest.now c.in_ok-unprotected.ensures
@@ -51,8 +51,8 @@ returns-in_err-covered-clause-key c = rw c.from_residual-in_err-covered.ensures
     (keys.none_after 2 c.in_ok-signer_unprotected.rest.now c.in_ok-recipients.recipients.now c.in_ok-recipients.rest.now c.in_ok-recipients.ensures
     (keys.none_here 1 c.in_ok-recipients.rest.now c.in_err-covered.ensures)))))))
 
-pub returns-in_err-signature-clause-key : goal.returns-in_err-signature-clause-key
-returns-in_err-signature-clause-key c = rw c.from_residual-in_err-signature.ensures
+pub returns-in_err-signature : goal.returns-in_err-signature
+returns-in_err-signature c = rw c.from_residual-in_err-signature.ensures
     (keys.no_key c.args.key.now c.in_ok-tag.rest.now c.in_ok-tag.tag c.well_formed.0.0 c.in_ok-tag.ensures.0 c.in_ok-tag.ensures.1
     (keys.none_after 6 c.in_ok-tag.rest.now c.in_ok-protected.protected.now c.in_ok-protected.rest.now c.in_ok-protected.ensures
     (keys.none_after 5 c.in_ok-protected.rest.now c.in_ok-unprotected.unprotected.now c.in_ok-unprotected.rest.now c.in_ok-unprotected.ensures
@@ -62,8 +62,8 @@ returns-in_err-signature-clause-key c = rw c.from_residual-in_err-signature.ensu
     (keys.none_after 1 c.in_ok-recipients.rest.now c.in_ok-covered.covered.now c.in_ok-covered.rest.now c.in_ok-covered.ensures
     (keys.none_here 0 c.in_ok-covered.rest.now c.in_err-signature.ensures))))))))
 
-pub returns-then-not-is_empty-clause-key : goal.returns-then-not-is_empty-clause-key
-returns-then-not-is_empty-clause-key c =
+pub returns-then-not-is_empty : goal.returns-then-not-is_empty
+returns-then-not-is_empty c =
     keys.no_key c.args.key.now c.in_ok-tag.rest.now c.in_ok-tag.tag c.well_formed.0.0 c.in_ok-tag.ensures.0 c.in_ok-tag.ensures.1
     (keys.none_after 6 c.in_ok-tag.rest.now c.in_ok-protected.protected.now c.in_ok-protected.rest.now c.in_ok-protected.ensures
     (keys.none_after 5 c.in_ok-protected.rest.now c.in_ok-unprotected.unprotected.now c.in_ok-unprotected.rest.now c.in_ok-unprotected.ensures
@@ -74,8 +74,8 @@ returns-then-not-is_empty-clause-key c =
     (keys.none_after 0 c.in_ok-covered.rest.now c.in_ok-signature.signature.now c.in_ok-signature.rest.now c.in_ok-signature.ensures
     (keys.none_left c.in_ok-signature.rest.now c.is_empty.result c.is_empty.ensures c.if-not-is_empty.true))))))))
 
-pub returns-clause-key : goal.returns-clause-key
-returns-clause-key c =
+pub returns : goal.returns
+returns c =
     let from7 = c.in_ok-signature.signature.now ∷ [] in
     let from6 = c.in_ok-covered.covered.now ∷ from7 in
     let from5 = c.in_ok-recipients.recipients.now ∷ from6 in
