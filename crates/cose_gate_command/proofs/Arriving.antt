@@ -1,19 +1,20 @@
 -- What was written of questions, one after another.
-use Rattle.std.proofs.Common.{◌≡◌, ℕ, zero, suc, ◌+◌, ◌-◌, List, [], ◌∷◌, ◌++◌, length, take, map, flat_map, Option, Some, None, Bool, true, false, refl, sym, ap, subst, ◌∙◌, arith, append-nil, append_assoc, length-append}
+use Rattle.std.proofs.Common.{◌≡◌, ℕ, zero, suc, ◌+◌, ◌-◌, List, [], ◌∷◌, ◌++◌, length, take, map, flat_map, Option, Some, None, true, false, refl, sym, ap, subst, ◌∙◌, arith, append-nil, append_assoc, length-append}
 use Rattle.std.specs.Prelude.{Result, Ok, Err, OnErr, OnOk, IfOk, is_err}
-use Rattle.std.specs.Io.KnownBytes.{Appends}
+use Rattle.std.specs.Io.KnownBytes.{Appends, Keeps}
 use Rattle.std.proofs.KnownBytes.{Appends-nil, Appends-trans}
+use Rattle.std.proofs.Math.Seq.{take-length}
 use Rattle.std.proofs.lemmas.Bool.{true≢false}
 use Rattle.std.proofs.lemmas.List.{flat_map_more, map-append}
-use Rattle.ciborium_ll.specs.Device.{AppendsFront}
+use Rattle.ciborium_ll.specs.Device.{AppendsFront, write_failures}
 use Rattle.ciborium_ll.specs.declared.log.Log.{Log}
 use Rattle.ciborium_ll.specs.declared.write.Write.{Ghosts as Writes}
 use Rattle.ciborium_ll.proofs.Appending.{front_then, then_front}
 use Rattle.cose_gate_core.specs.Asked.{folded_over}
 use Rattle.cose_gate_core.specs.Questions.{Question}
-use Rattle.cose_gate_command.specs.Asking.{Hands, IsStatus, or_status}
+use Rattle.cose_gate_command.specs.Asking.{Hands, IsStatus, Sent, or_status}
 use Rattle.cose_gate_command.specs.Lines.{parts_of, told_as}
-use Rattle.cose_gate_command.specs.Written.{Arrived, ArrivedSince, Asked, Came, Fell, Stopped, WroteQuestions, added, parts_in}
+use Rattle.cose_gate_command.specs.Written.{Arrived, ArrivedSince, Asked, Came, Fell, Stopped, AreOut, added, parts_in}
 use Rattle.cose_gate_command.specs.declared.options.Form.{Form}
 use Rattle.cose_gate_command.specs.declared.not_run.NotRun.{NotRun}
 use Rattle.cose_gate_command.specs.declared.not_run.NotRun.TheVariants as unrun
@@ -118,9 +119,9 @@ module _ {W F : Type 0} (w : Writes W F) where
 
     -- one more question, which was written or a beginning of it, if all before it were written
     pub writes_next : (begun : Log W) (old new : W) (written written' : Result (Unit {0}) NotRun) (told told' : Log Parts) (parts : List ℕ × List ℕ)
-        → WroteQuestions w form begun old written told → OnErr written ((written' ≡ written) × (new ≡ old))
+        → AreOut w form begun old written told → OnErr written ((written' ≡ written) × (new ≡ old))
         → OnOk written ((q : Question) → parts ≡ parts_of form q → Arrived w old new written' (told_as form q))
-        → map parts_in told'.items ≡ map parts_in told.items ++ parts ∷ [] → WroteQuestions w form begun new written' told'
+        → map parts_in told'.items ≡ map parts_in told.items ++ parts ∷ [] → AreOut w form begun new written' told'
     writes_next begun old new (Ok u) written' told told' parts before none one more qs e =
         let l = last_is (parts_of form) qs (map parts_in told.items) parts (e ∙ more) in
         subst (λ (z : List ℕ). ArrivedSince w begun.items new written' z) (with_last l.before l.last ∙ ap (flat_map (told_as form)) (sym l.whole))
@@ -133,7 +134,7 @@ module _ {W F : Type 0} (w : Writes W F) where
         (subst (λ (z : Result (Unit {0}) NotRun). ArrivedSince w begun.items old z (flat_map (told_as form) qs)) (sym same.0) p)
 
   -- nothing was written of no questions
-  pub none_written : (form : Form) (begun : Log W) (now : W) (told : Log Parts) → begun.items ≡ now ∷ [] → told.items ≡ [] → WroteQuestions w form begun now (Ok tt) told
+  pub none_written : (form : Form) (begun : Log W) (now : W) (told : Log Parts) → begun.items ≡ now ∷ [] → told.items ≡ [] → AreOut w form begun now (Ok tt) told
   none_written form begun now told first none [] e =
       subst (λ (z : List W). ArrivedSince w z now (Ok tt) []) (sym first) (refl, (refl, Appends-nil (w.written now)))
   none_written form begun now told first none (q ∷ qs) e =
@@ -149,7 +150,7 @@ module _ {W F : Type 0} (w : Writes W F) where
 
   -- a judge with these, on a writer of this name
   abbrev judge : ℕ → List W → Form → List (List ℕ × List ℕ) → Asked W
-  judge name begun form told = record { name = name; first = begun; form = form; told = told }
+  judge name begun form told = record { name = name; was = begun; form = form; told = told }
 
   module _ (name name' : ℕ) (begun begun' : List W) (form form' : Form) (told told' : List (List ℕ × List ℕ)) (qs : List Question)
       (heard : judge name' begun' form' told' ≡ folded_over tells (judge name begun form told) qs) where
@@ -160,20 +161,19 @@ module _ {W F : Type 0} (w : Writes W F) where
     told_name = ap (λ (z : Asked W). z.name) all
 
     pub all_arrived : (first now : W) (b : Log W) (written : Result (Unit {0}) NotRun) (t : Log Parts) (f : Form) → begun ≡ first ∷ [] → told ≡ [] → b.items ≡ begun'
-        → map parts_in t.items ≡ told' → form ≡ f → WroteQuestions w form' b now written t → Arrived w first now written (flat_map (told_as f) qs)
+        → map parts_in t.items ≡ told' → form ≡ f → AreOut w form' b now written t → Arrived w first now written (flat_map (told_as f) qs)
     all_arrived first now b written t f starts none same is in_form wrote =
         let fs : form' ≡ f = ap (λ (z : Asked W). z.form) all ∙ in_form in
-        let bs : b.items ≡ first ∷ [] = same ∙ (ap (λ (z : Asked W). z.first) all ∙ starts) in
+        let bs : b.items ≡ first ∷ [] = same ∙ (ap (λ (z : Asked W). z.was) all ∙ starts) in
         let ts : map parts_in t.items ≡ map (parts_of form') qs
         = is ∙ (ap (λ (z : Asked W). z.told) all ∙ (ap (λ (z : List _). z ++ map (parts_of form) qs) none ∙ ap (λ (z : Form). map (parts_of z) qs) (in_form ∙ sym fs))) in
         subst (λ (z : Form). Arrived w first now written (flat_map (told_as z) qs)) fs
         (subst (λ (z : List W). ArrivedSince w z now written (flat_map (told_as form') qs)) bs (wrote qs (sym ts)))
 
-
   -- what one question was, or a beginning of it
-  pub torn : (old new : W) (written : Result (Unit {0}) NotRun) (text : List ℕ) → w.handle new ≡ w.handle old → w.failed new ≡ w.failed old + 1
+  pub torn : (old new : W) (text : List ℕ) → w.handle new ≡ w.handle old → w.failed new ≡ w.failed old + 1
       → AppendsFront (w.written old) (w.written new) text → Arrived w old new (Err unrun.Output) text
-  torn old new written text h f p = (h, stopped old new 1 text f p)
+  torn old new text h f p = (h, stopped old new 1 text f p)
 
 -- of a question whose record was made, if it was
 pub by_record : {E T U V : Type 0} (P : Question → Type 0) (form : Form) (items : V → List ℕ) (written : Result U T) (fields r : List ℕ) (made : Result V E)
@@ -189,7 +189,7 @@ pub is_status : (s : ℕ) (written : Result (Unit {0}) NotRun) → IsStatus (or_
 is_status s (Ok u) = refl
 is_status s (Err why) = tt
 
-pub handed : {W F : Type 0} (w : Writes W F) (out out' : W) (s : ℕ) (written : Result (Unit {0}) NotRun) (text : List ℕ) → Arrived w out out' written text
+handed : {W F : Type 0} (w : Writes W F) (out out' : W) (s : ℕ) (written : Result (Unit {0}) NotRun) (text : List ℕ) → Arrived w out out' written text
     → Hands w out out' (or_status s written) text
 handed w out out' s (Ok u) text p = p.1
 handed w out out' s (Err unrun.Memory) text p = (omega (arith, p.1.0), (added (w.written out) (w.written out'), p.1.1))
@@ -200,3 +200,40 @@ handed w out out' s (Err unrun.NoFile) text p = absurd p.1
 handed w out out' s (Err unrun.NoRecords) text p = absurd p.1
 handed w out out' s (Err (unrun.LineNotHex n)) text p = absurd p.1
 handed w out out' s (Err (unrun.LineNoRecord n)) text p = absurd p.1
+
+pub handed_as : {W F : Type 0} (w : Writes W F) (out out' : W) (s : ℕ) (written : Result (Unit {0}) NotRun) (result : Result ℕ NotRun) (text : List ℕ)
+    → result ≡ or_status s written → Arrived w out out' written text → Hands w out out' result text
+handed_as w out out' s written result text e p = subst (λ (z : Result ℕ NotRun). Hands w out out' z text) (sym e) (handed w out out' s written text p)
+
+-- what is held of a question, with more that is so of its subject
+pub also_so : {T E S : Type 0} (r : Result T E) (P Q : S → List ℕ → Type 0) (F : S → Type 0) → OnOk r ((s : S) (b : List ℕ) → P s b → Q s b)
+    → OnOk r ((s : S) (b : List ℕ) → P s b × F s → Q s b × F s)
+also_so (Err e) P Q F p = tt
+also_so (Ok x) P Q F p = λ s b q. (p s b q.0, q.1)
+
+-- what is known of a result that is Ok
+pub at_ok : {T E : Type 0} (r : Result T E) (P : Type 0) → P → OnOk r P
+at_ok (Ok x) P p = p
+at_ok (Err e) P p = tt
+
+pub of_ok : {T E : Type 0} (r : Result T E) (P : T → Type 0) (x : T) → r ≡ Ok x → IfOk r P → P x
+of_ok r P x e p = subst (λ z. IfOk z P) e p
+
+kept : (a b c : Option (List ℕ)) (x : List ℕ) → Keeps b c → Appends a b x → Appends a c x
+kept None b c x q p = tt
+kept (Some a) None c x q p = absurd p
+kept (Some a) (Some b) None x q p = absurd q
+kept (Some a) (Some b) (Some c) x q p = q ∙ p
+
+-- a text that was written whole, but not handed on
+pub not_handed_on : {W F T E X G : Type 0} (w : Writes W F) (out mid out' : W) (r : Result T E) (f : Result X G) (text : List ℕ) → is_err r ≡ false → Sent w out mid r text
+    → Keeps (w.written mid) (w.written out') → w.failed out' ≡ write_failures f (w.failed mid) → is_err f ≡ true → w.handle out' ≡ w.handle out
+    → Arrived w out out' (Err unrun.Output) text
+not_handed_on w out mid out' (Err x) f text e s k n o h = absurd (true≢false e)
+not_handed_on w out mid out' (Ok x) (Ok y) text e s k n o h = absurd (true≢false (sym o))
+not_handed_on w out mid out' (Ok x) (Err y) text e s k n o h =
+    torn w out out' text h (n ∙ ap (λ (z : ℕ). z + 1) s.0)
+    (length text, subst (Appends (w.written out) (w.written out')) (sym (take-length text)) (kept (w.written out) (w.written mid) (w.written out') text k s.1))
+
+pub same_handle : {W F : Type 0} (w : Writes W F) (out out' : W) (written : Result (Unit {0}) NotRun) (text : List ℕ) → Arrived w out out' written text → w.handle out' ≡ w.handle out
+same_handle w out out' written text p = p.0

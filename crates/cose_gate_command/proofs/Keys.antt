@@ -1,5 +1,5 @@
 -- Keys are read in one way.
-use Rattle.std.proofs.Common.{◌≡◌, ℕ, suc, ◌<◌, ◌+◌, ◌^◌, List, [], ◌∷◌, ◌++◌, ◌==◌, Bool, true, false, length, take, drop, flat_map, refl, sym, ap, ◌∙◌, lit<, arith, length-append}
+use Rattle.std.proofs.Common.{◌≡◌, ℕ, suc, ◌<◌, ◌+◌, ◌^◌, List, [], ◌∷◌, ◌++◌, ◌==◌, Bool, true, false, Option, Some, None, MatchOption, length, take, drop, flat_map, refl, sym, ap, ◌∙◌, lit<, arith, length-append}
 use Rattle.std.proofs.lemmas.List.{append-nil, nil_from_length, take-append-drop}
 use Rattle.std.proofs.lemmas.Bool.Decides.{nat_tests}
 use Rattle.cose_gate_records.specs.Framing.{eight, framed}
@@ -113,3 +113,12 @@ no_question records key rest h is none k texts more seven e = none k texts seven
 pub more_left : (bytes p x q : List ℕ) (empty : Bool) → length bytes < 2 ^ 64 → bytes ≡ framed p ++ x → empty ≡ (length x == 0) → empty ≡ false → bytes ≡ framed q → ⊥
 more_left bytes p x q empty h e is so f =
     none_left x empty is so (omega (arith, h, length-frame_after bytes p x e)) [] refl (one_frame bytes p x q [] h e (f ∙ sym (append-nil (framed q)))).1
+
+-- bytes that are one frame have the question of what is in it, or none
+pub whole : {Q : Type 0} (bytes key rest : List ℕ) → length bytes < 2 ^ 64 → bytes ≡ framed key ++ rest → rest ≡ [] → (key_of : Q → List ℕ) (r : Option Q)
+    → MatchOption r ((k : MessageKind) (texts : List (List ℕ)) → length texts ≡ 7 → key ≡ key_with k texts → ⊥) (λ q. key ≡ key_of q)
+    → MatchOption r ((k : MessageKind) (texts : List (List ℕ)) → length texts ≡ 7 → bytes ≡ framed (key_with k texts) → ⊥) (λ q. bytes ≡ framed (key_of q))
+whole bytes key rest h is none key_of None m =
+    λ k texts seven e. no_question bytes key rest h is m k texts [] seven (e ∙ sym (append-nil (framed (key_with k texts))))
+whole bytes key rest h is none key_of (Some q) m =
+    is ∙ (ap (λ (z : List ℕ). framed key ++ z) none ∙ (append-nil (framed key) ∙ ap (λ (z : List ℕ). framed z) m))

@@ -1,13 +1,8 @@
 -- Questions that are read from their records.
-use Rattle.std.specs.Prelude.{◌≡◌, ℕ, List, [], ◌∷◌, ◌++◌, flat_map, map, string_bytes, Bool, true, false}
-use Rattle.cose_gate_core.specs.Questions.{Question, number_of}
+use Rattle.std.specs.Prelude.{ℕ, List, [], ◌∷◌, ◌++◌, flat_map}
+use Rattle.cose_gate_core.specs.Questions.{number_of}
 use Rattle.cose_gate_core.specs.declared.about.MessageKind.{MessageKind}
 use Rattle.cose_gate_records.specs.Framing.{eight, framed}
-use Rattle.cose_gate_records.specs.Records.{record_of}
-use Rattle.cose_gate_command.specs.Fields.{key_fields}
-use Rattle.cose_gate_command.specs.Lines.{question_line, fielded_line}
-use Rattle.cose_gate_command.specs.declared.lines.Layout.{Layout}
-use Rattle.cose_gate_command.specs.declared.lines.Layout.TheVariants.{Records, Lines, Fields}
 use Rattle.cose_gate_command.specs.declared.question.Question.{Question as ReadQuestion}
 
 -- the key of a question of this kind and with these texts: the tag, and each text after its length

@@ -53,9 +53,9 @@ ArrivedSince w [] new written text = Unit {0}
 ArrivedSince w (old ∷ more) new written text = Arrived w old new written text
 
 -- if this was told of questions, they were written since a writer was as in a log
-abbrev pub WroteQuestions : {W F : Type 0} → Writes W F → Form → Log W → W
+abbrev pub AreOut : {W F : Type 0} → Writes W F → Form → Log W → W
     → Result (Unit {0}) NotRun → Log Parts → Type 0
-WroteQuestions w form first new written told = (qs : List Question)
+AreOut w form first new written told = (qs : List Question)
     → map (parts_of form) qs ≡ map parts_in told.items
     → ArrivedSince w first.items new written (flat_map (told_as form) qs)
 
@@ -94,15 +94,15 @@ ArrivedSince-prop w [] new written text = Unit-prop
 ArrivedSince-prop w (old ∷ more) new written text =
     ×_prop (Coded-set (coded_list coded_ℕ) _ _) (Came-prop w old new written text)
 
-pub WroteQuestions-prop : {W F : Type 0} (w : Writes W F) (form : Form) (first : Log W) (new : W)
+pub AreOut-prop : {W F : Type 0} (w : Writes W F) (form : Form) (first : Log W) (new : W)
     (written : Result (Unit {0}) NotRun) (told : Log Parts)
-    → IsProp (WroteQuestions w form first new written told)
-WroteQuestions-prop w form first new written told =
+    → IsProp (AreOut w form first new written told)
+AreOut-prop w form first new written told =
     Π_prop (λ qs. →_prop (ArrivedSince-prop w first.items new written (flat_map (told_as form) qs)))
 
 -- questions on a writer that is lent: what the writer was at first, and what was told since
 pub record Asked (W : Type 0) : Type 0 where
   pub name : ℕ
-  pub first : List W
+  pub was : List W
   pub form : Form
   pub told : List (List ℕ × List ℕ)

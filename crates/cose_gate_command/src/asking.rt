@@ -2,10 +2,8 @@
 ghost use Rattle.std.specs.Prelude.{◌≡◌, false, is_ok, map, string_bytes};
 ghost use Rattle.cose_gate_command.specs.Arguments as spec;
 ghost use Rattle.cose_gate_command.specs.Asking.{Asks, Asked, or_status, reading};
-ghost use Rattle.cose_gate_command.specs.Waiting.{Held, last_line};
+ghost use Rattle.cose_gate_command.specs.Waiting.{last_line};
 ghost use Rattle.cose_gate_core.specs.Terms.{limits_of};
-ghost use Rattle.cose_gate_program.specs.Program.{hears};
-ghost use Rattle.cose_gate_program.specs.Telling.{RanTold};
 ghost use Rattle.cose_gate_program.specs.Writing.{Wrote};
 
 use crate::ending::{Ending, end};
@@ -14,7 +12,6 @@ use crate::options::{Form, ask_arguments, read_aad};
 use crate::question_writer::{Begun, QuestionWriter};
 use ciborium_ll::log::Log;
 use ciborium_ll::{Read, Write};
-use cose_gate_core::Judge;
 use cose_gate_program::{Limits, Notice, Terms, run_told};
 use cose_gate_records::Nowhere;
 use std::alloc::Global;
@@ -78,7 +75,18 @@ fn ask_by<R: Read, W: Write, E: Write>(
     let mut begun = Begun::new(alloc);
     let mut told = Log::new();
     let mut writer = QuestionWriter::new(alloc, form, &mut begun, out, &mut told);
-    let (status, last) = run_waiting(alloc, terms, aad, input, err, &mut writer);
+    let mut last = None;
+    let mut said = Log::new();
+    let mut ending = Ending::new(err, &mut last, &mut said);
+    let status = run_told(
+        alloc,
+        terms,
+        aad,
+        input,
+        &mut Nowhere,
+        &mut ending,
+        &mut writer,
+    );
     finish(status, writer.written, &last, err)
 }
 
@@ -97,25 +105,4 @@ fn finish<E: Write>(
         Ok(()) => Ok(status),
         Err(why) => Err(why),
     }
-}
-
-/// The run whose output goes nowhere, and whose last line isn't written but returned.
-fn run_waiting<R: Read, E: Write, J: Judge>(
-    alloc: Global,
-    terms: Terms,
-    aad: &[u8],
-    input: &mut R,
-    err: &mut E,
-    judge: &mut J,
-) -> (u8, Option<Notice>)
-    ensures ran { RanTold (limits_of terms) (J.yes (J.who judge.old)) aad.now
-        (reading R.Read input.old) (reading R.Read input.new) result.0
-        (hears J.Judge judge.old judge.new) (Held E.Write err.old err.new result.1) }
-    ensures kept { R.handle input.new ≡ R.handle input.old }
-{
-    let mut last = None;
-    let mut said = Log::new();
-    let mut ending = Ending::new(err, &mut last, &mut said);
-    let status = run_told(alloc, terms, aad, input, &mut Nowhere, &mut ending, judge);
-    (status, last)
 }

@@ -17,8 +17,10 @@ pub(crate) struct Parts {
 impl Parts {
     /// These fields, and the record of the question that is held, with this signature.
     pub(crate) fn new(fields: &[u8], held: &Held, signature: &[u8]) -> Parts
-        ensures { parts_in result ≡ (fields.now,
-            framed (key_by held.now.front.items held.now.covered.items signature.now)) }
+        ensures { parts_in result ≡ (
+          fields.now,
+          framed (key_by held.now.front.items held.now.covered.items signature.now),
+        ) }
     {
         Parts {
             fields: logged(Log::new(), fields),

@@ -54,11 +54,7 @@ pub(crate) fn read_question(record: &[u8]) -> Option<Question<'_>>
         (λ q. record.now ≡ framed (key_with q.kind (texts_read q))) }
 {
     let (key, rest) = split_first(record)?;
-    if rest.is_empty() {
-        read_key(key)
-    } else {
-        None
-    }
+    if rest.is_empty() { read_key(key) } else { None }
 }
 
 /// The question of a key.

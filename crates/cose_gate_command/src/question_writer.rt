@@ -3,8 +3,8 @@ ghost use Rattle.std.specs.Prelude.{◌≡◌, ◌∷◌, ◌++◌, [], IfOk, On
 ghost use Rattle.cose_gate_core.specs.Lent.{subject_of};
 ghost use Rattle.cose_gate_core.specs.Questions.{Question};
 ghost use Rattle.cose_gate_command.specs.Lines.{fields_in, parts_of, told_as};
-ghost use Rattle.cose_gate_command.specs.Written.{Arrived, Asked, WroteQuestions, parts_in};
-ghost use Rattle.cose_gate_command.specs.Written.{WroteQuestions-prop};
+ghost use Rattle.cose_gate_command.specs.Written.{Arrived, Asked, AreOut, parts_in};
+ghost use Rattle.cose_gate_command.specs.Written.{AreOut-prop};
 ghost use Rattle.cose_gate_records.specs.Kept.{IsHeld, pieces_of};
 
 use crate::fields::key_fields;
@@ -48,9 +48,8 @@ pub(crate) struct QuestionWriter<'a, W: Write> {
     pub(crate) written: Result<(), NotRun>,
     /// What was told of the questions, and what the writer was at first. It is in contracts alone.
     told: &'a mut Log<Parts>,
-    first: Log<W>,
-    ghost wrote: { WroteQuestions W.Write form first out.now written told.now }
-        by { WroteQuestions-prop W.Write _ _ _ _ _ },
+    was: Log<W>,
+    ghost sent: { AreOut W.Write form was out.now written told.now } by { AreOut-prop W.Write _ _ _ _ _ },
 }
 
 impl<'a, W: Write> QuestionWriter<'a, W> {
@@ -64,12 +63,12 @@ impl<'a, W: Write> QuestionWriter<'a, W> {
         told: &'a mut Log<Parts>,
     ) -> QuestionWriter<'a, W>
         ensures form { result.form ≡ form }
-        ensures first { result.first.items ≡ out.old ∷ [] }
+        ensures was { result.was.items ≡ out.old ∷ [] }
         ensures told { result.told.now.items ≡ [] }
         ensures kept { result.out.ghost_name ≡ out.entry.ghost_name }
     {
         *told = Log::new();
-        let first = Log::new().and(&*out);
+        let was = Log::new().and(&*out);
         QuestionWriter {
             alloc,
             form,
@@ -77,7 +76,7 @@ impl<'a, W: Write> QuestionWriter<'a, W> {
             out,
             written: Ok(()),
             told,
-            first,
+            was,
         }
     }
 }
@@ -127,7 +126,7 @@ impl<'a, W: Write> Judge for QuestionWriter<'a, W> {
 
     ghost told = { λ j. record {
       name = j.out.ghost_name;
-      first = j.first.items;
+      was = j.was.items;
       form = j.form;
       told = map parts_in j.told.now.items;
     } };

@@ -27,7 +27,8 @@ pub(crate) struct Input<'a, R> {
     pub(crate) reader: &'a mut R,
 }
 
-/// The output.
+/// The output, with a small fault: that of std in each call on the way would take more stack than
+/// the 256 KiB that deep headers are promised to need.
 #[derive(Drop)]
 pub(crate) struct Output<'a, W> {
     pub(crate) writer: &'a mut W,

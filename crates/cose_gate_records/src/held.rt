@@ -67,7 +67,7 @@ impl Held {
     /// # Errors
     /// Only if out of memory.
     pub fn record(&self, alloc: Global, signature: &[u8]) -> Result<Vec<u8>, AllocError>
-        ensures { IfOk result (λ record. record.items
+        ensures { IfOk result (λ r. r.items
             ≡ framed (key_by self.now.front.items self.now.covered.items signature.now)) }
     {
         let mut record = Vec::new(alloc);

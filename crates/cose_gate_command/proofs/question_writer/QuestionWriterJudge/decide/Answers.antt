@@ -1,4 +1,3 @@
-use Rattle.std.proofs.Common.{ap, ◌≡◌, ◌∙◌}
 use Rattle.cose_gate_command.proofs.Arriving.{writes_next, one_more, by_record}
 use Rattle.cose_gate_command.proofs.question_writer.QuestionWriterJudge.decide.Goals as goal
 
@@ -6,6 +5,6 @@ pub invariant_of-self : goal.invariant_of-self
 invariant_of-self g c =
     let old = c.args.self.now in
     let next = c.write_next-self in record {
-  wrote = writes_next g.W.Write old.form old.first old.out.now _ old.written _ old.told.now _ _ old.wrote next.ensures.before (by_record _ old.form (λ v. v.items) old.written _ _ c.record-record.result c.record-record.ensures next.ensures.next)
-      (one_more old.told.now.items c.new-parts.result _ c.and-self.ensures c.new-parts.ensures);
-}
+      sent = writes_next g.W.Write old.form old.was old.out.now _ old.written _ old.told.now _ _ old.sent next.ensures.before (by_record _ old.form (λ v. v.items) old.written _ _ c.record-record.result c.record-record.ensures next.ensures.next)
+          (one_more old.told.now.items c.new-parts.result _ c.and-self.ensures c.new-parts.ensures);
+    }
