@@ -14,7 +14,7 @@ use Rattle.cose_gate_core.specs.Asked.{folded_over}
 use Rattle.cose_gate_core.specs.Questions.{Question}
 use Rattle.cose_gate_command.specs.Asking.{Hands, IsStatus, Sent, or_status}
 use Rattle.cose_gate_command.specs.Lines.{parts_of, told_as}
-use Rattle.cose_gate_command.specs.Written.{Arrived, ArrivedSince, Asked, Came, Fell, Stopped, AreOut, added, parts_in}
+use Rattle.cose_gate_command.specs.Written.{IsWritten, IsWrittenSince, Asked, HasText, HasBeginning, Beginning, AreOut, added, parts_in}
 use Rattle.cose_gate_command.specs.declared.options.Form.{Form}
 use Rattle.cose_gate_command.specs.declared.not_run.NotRun.{NotRun}
 use Rattle.cose_gate_command.specs.declared.not_run.NotRun.TheVariants as unrun
@@ -66,50 +66,40 @@ pub one_more : (told : List Parts) (p : Parts) (all : List Parts) {parts : List 
 one_more told p all e is = ap (map parts_in) e ∙ (map-append parts_in told (p ∷ []) ∙ ap (λ (z : _). map parts_in told ++ z ∷ []) is)
 
 module _ {W F : Type 0} (w : Writes W F) where
-  pub stopped : (old new : W) (n : ℕ) (text : List ℕ) → w.failed new ≡ w.failed old + n → AppendsFront (w.written old) (w.written new) text → Stopped w old new n text
+  pub stopped : (old new : W) (n : ℕ) (text : List ℕ) → w.failed new ≡ w.failed old + n → AppendsFront (w.written old) (w.written new) text → Beginning w old new n text
   stopped old new n text f p = (f, as_added (w.written old) (w.written new) text p)
 
-  front : (old new : W) (n : ℕ) (text : List ℕ) → Stopped w old new n text → AppendsFront (w.written old) (w.written new) text
+  front : (old new : W) (n : ℕ) (text : List ℕ) → Beginning w old new n text → AppendsFront (w.written old) (w.written new) text
   front old new n text p = (added (w.written old) (w.written new), p.1)
 
   -- all of one text, and a beginning of another
-  stopped_then : (old mid new : W) (n : ℕ) (a b : List ℕ) → Came w old mid (Ok tt) a → Stopped w mid new n b → Stopped w old new n (a ++ b)
+  stopped_then : (old mid new : W) (n : ℕ) (a b : List ℕ) → HasText w old mid (Ok tt) a → Beginning w mid new n b → Beginning w old new n (a ++ b)
   stopped_then old mid new n a b p q =
       stopped old new n (a ++ b) (q.0 ∙ ap (λ (k : ℕ). k + n) p.0) (then_front (w.written old) (w.written mid) (w.written new) a b p.1 (front mid new n b q))
 
-  stopped_more : (old new : W) (n : ℕ) (a b : List ℕ) → Stopped w old new n a → Stopped w old new n (a ++ b)
+  stopped_more : (old new : W) (n : ℕ) (a b : List ℕ) → Beginning w old new n a → Beginning w old new n (a ++ b)
   stopped_more old new n a b p = stopped old new n (a ++ b) p.0 (front_then (w.written old) (w.written new) a b (front old new n a p))
 
-  fell_then : (old mid new : W) (why : NotRun) (a b : List ℕ) → Came w old mid (Ok tt) a → Fell w mid new why b → Fell w old new why (a ++ b)
+  fell_then : (old mid new : W) (why : NotRun) (a b : List ℕ) → HasText w old mid (Ok tt) a → HasBeginning w mid new why b → HasBeginning w old new why (a ++ b)
   fell_then old mid new unrun.Memory a b p q = stopped_then old mid new 0 a b p q
   fell_then old mid new unrun.Output a b p q = stopped_then old mid new 1 a b p q
-  fell_then old mid new unrun.Usage a b p q = absurd q
-  fell_then old mid new unrun.NotHex a b p q = absurd q
-  fell_then old mid new unrun.NoFile a b p q = absurd q
-  fell_then old mid new unrun.NoRecords a b p q = absurd q
-  fell_then old mid new (unrun.LineNotHex n) a b p q = absurd q
-  fell_then old mid new (unrun.LineNoRecord n) a b p q = absurd q
+  fell_then old mid new why a b p q = absurd q
 
-  fell_more : (old new : W) (why : NotRun) (a b : List ℕ) → Fell w old new why a → Fell w old new why (a ++ b)
+  fell_more : (old new : W) (why : NotRun) (a b : List ℕ) → HasBeginning w old new why a → HasBeginning w old new why (a ++ b)
   fell_more old new unrun.Memory a b p = stopped_more old new 0 a b p
   fell_more old new unrun.Output a b p = stopped_more old new 1 a b p
-  fell_more old new unrun.Usage a b p = absurd p
-  fell_more old new unrun.NotHex a b p = absurd p
-  fell_more old new unrun.NoFile a b p = absurd p
-  fell_more old new unrun.NoRecords a b p = absurd p
-  fell_more old new (unrun.LineNotHex n) a b p = absurd p
-  fell_more old new (unrun.LineNoRecord n) a b p = absurd p
+  fell_more old new why a b p = absurd p
 
-  came_then : (old mid new : W) (r : Result (Unit {0}) NotRun) (a b : List ℕ) → Came w old mid (Ok tt) a → Came w mid new r b → Came w old new r (a ++ b)
+  came_then : (old mid new : W) (r : Result (Unit {0}) NotRun) (a b : List ℕ) → HasText w old mid (Ok tt) a → HasText w mid new r b → HasText w old new r (a ++ b)
   came_then old mid new (Ok u) a b p q = (q.0 ∙ p.0, Appends-trans (w.written old) (w.written mid) (w.written new) a b p.1 q.1)
   came_then old mid new (Err why) a b p q = fell_then old mid new why a b p q
 
-  arrived_then : (begun : List W) (mid new : W) (r : Result (Unit {0}) NotRun) (a b : List ℕ) → ArrivedSince w begun mid (Ok tt) a → Arrived w mid new r b
-      → ArrivedSince w begun new r (a ++ b)
+  arrived_then : (begun : List W) (mid new : W) (r : Result (Unit {0}) NotRun) (a b : List ℕ) → IsWrittenSince w begun mid (Ok tt) a → IsWritten w mid new r b
+      → IsWrittenSince w begun new r (a ++ b)
   arrived_then [] mid new r a b p q = tt
   arrived_then (old ∷ more) mid new r a b p q = (q.0 ∙ p.0, came_then old mid new r a b p.1 q.1)
 
-  arrived_more : (begun : List W) (new : W) (why : NotRun) (a b : List ℕ) → ArrivedSince w begun new (Err why) a → ArrivedSince w begun new (Err why) (a ++ b)
+  arrived_more : (begun : List W) (new : W) (why : NotRun) (a b : List ℕ) → IsWrittenSince w begun new (Err why) a → IsWrittenSince w begun new (Err why) (a ++ b)
   arrived_more [] new why a b p = tt
   arrived_more (old ∷ more) new why a b p = (p.0, fell_more old new why a b p.1)
 
@@ -120,23 +110,23 @@ module _ {W F : Type 0} (w : Writes W F) where
     -- one more question, which was written or a beginning of it, if all before it were written
     pub writes_next : (begun : Log W) (old new : W) (written written' : Result (Unit {0}) NotRun) (told told' : Log Parts) (parts : List ℕ × List ℕ)
         → AreOut w form begun old written told → OnErr written ((written' ≡ written) × (new ≡ old))
-        → OnOk written ((q : Question) → parts ≡ parts_of form q → Arrived w old new written' (told_as form q))
+        → OnOk written ((q : Question) → parts ≡ parts_of form q → IsWritten w old new written' (told_as form q))
         → map parts_in told'.items ≡ map parts_in told.items ++ parts ∷ [] → AreOut w form begun new written' told'
     writes_next begun old new (Ok u) written' told told' parts before none one more qs e =
         let l = last_is (parts_of form) qs (map parts_in told.items) parts (e ∙ more) in
-        subst (λ (z : List ℕ). ArrivedSince w begun.items new written' z) (with_last l.before l.last ∙ ap (flat_map (told_as form)) (sym l.whole))
+        subst (λ (z : List ℕ). IsWrittenSince w begun.items new written' z) (with_last l.before l.last ∙ ap (flat_map (told_as form)) (sym l.whole))
         (arrived_then begun.items old new written' (flat_map (told_as form) l.before) (told_as form l.last) (before l.before l.first) (one l.last l.then))
     writes_next begun old new (Err why) written' told told' parts before same one more qs e =
         let l = last_is (parts_of form) qs (map parts_in told.items) parts (e ∙ more) in
-        let p = subst (λ (z : List ℕ). ArrivedSince w begun.items old (Err why) z) (with_last l.before l.last ∙ ap (flat_map (told_as form)) (sym l.whole))
+        let p = subst (λ (z : List ℕ). IsWrittenSince w begun.items old (Err why) z) (with_last l.before l.last ∙ ap (flat_map (told_as form)) (sym l.whole))
         (arrived_more begun.items old why (flat_map (told_as form) l.before) (told_as form l.last) (before l.before l.first)) in
-        subst (λ (z : W). ArrivedSince w begun.items z written' (flat_map (told_as form) qs)) (sym same.1)
-        (subst (λ (z : Result (Unit {0}) NotRun). ArrivedSince w begun.items old z (flat_map (told_as form) qs)) (sym same.0) p)
+        subst (λ (z : W). IsWrittenSince w begun.items z written' (flat_map (told_as form) qs)) (sym same.1)
+        (subst (λ (z : Result (Unit {0}) NotRun). IsWrittenSince w begun.items old z (flat_map (told_as form) qs)) (sym same.0) p)
 
   -- nothing was written of no questions
   pub none_written : (form : Form) (begun : Log W) (now : W) (told : Log Parts) → begun.items ≡ now ∷ [] → told.items ≡ [] → AreOut w form begun now (Ok tt) told
   none_written form begun now told first none [] e =
-      subst (λ (z : List W). ArrivedSince w z now (Ok tt) []) (sym first) (refl, (refl, Appends-nil (w.written now)))
+      subst (λ (z : List W). IsWrittenSince w z now (Ok tt) []) (sym first) (refl, (refl, Appends-nil (w.written now)))
   none_written form begun now told first none (q ∷ qs) e =
       let c : map (parts_of form) (q ∷ qs) ≡ [] = e ∙ ap (map parts_in) none in cc
 
@@ -161,18 +151,18 @@ module _ {W F : Type 0} (w : Writes W F) where
     told_name = ap (λ (z : Asked W). z.name) all
 
     pub all_arrived : (first now : W) (b : Log W) (written : Result (Unit {0}) NotRun) (t : Log Parts) (f : Form) → begun ≡ first ∷ [] → told ≡ [] → b.items ≡ begun'
-        → map parts_in t.items ≡ told' → form ≡ f → AreOut w form' b now written t → Arrived w first now written (flat_map (told_as f) qs)
+        → map parts_in t.items ≡ told' → form ≡ f → AreOut w form' b now written t → IsWritten w first now written (flat_map (told_as f) qs)
     all_arrived first now b written t f starts none same is in_form wrote =
         let fs : form' ≡ f = ap (λ (z : Asked W). z.form) all ∙ in_form in
         let bs : b.items ≡ first ∷ [] = same ∙ (ap (λ (z : Asked W). z.was) all ∙ starts) in
         let ts : map parts_in t.items ≡ map (parts_of form') qs
         = is ∙ (ap (λ (z : Asked W). z.told) all ∙ (ap (λ (z : List _). z ++ map (parts_of form) qs) none ∙ ap (λ (z : Form). map (parts_of z) qs) (in_form ∙ sym fs))) in
-        subst (λ (z : Form). Arrived w first now written (flat_map (told_as z) qs)) fs
-        (subst (λ (z : List W). ArrivedSince w z now written (flat_map (told_as form') qs)) bs (wrote qs (sym ts)))
+        subst (λ (z : Form). IsWritten w first now written (flat_map (told_as z) qs)) fs
+        (subst (λ (z : List W). IsWrittenSince w z now written (flat_map (told_as form') qs)) bs (wrote qs (sym ts)))
 
   -- what one question was, or a beginning of it
   pub torn : (old new : W) (text : List ℕ) → w.handle new ≡ w.handle old → w.failed new ≡ w.failed old + 1
-      → AppendsFront (w.written old) (w.written new) text → Arrived w old new (Err unrun.Output) text
+      → AppendsFront (w.written old) (w.written new) text → IsWritten w old new (Err unrun.Output) text
   torn old new text h f p = (h, stopped old new 1 text f p)
 
 -- of a question whose record was made, if it was
@@ -189,20 +179,15 @@ pub is_status : (s : ℕ) (written : Result (Unit {0}) NotRun) → IsStatus (or_
 is_status s (Ok u) = refl
 is_status s (Err why) = tt
 
-handed : {W F : Type 0} (w : Writes W F) (out out' : W) (s : ℕ) (written : Result (Unit {0}) NotRun) (text : List ℕ) → Arrived w out out' written text
+handed : {W F : Type 0} (w : Writes W F) (out out' : W) (s : ℕ) (written : Result (Unit {0}) NotRun) (text : List ℕ) → IsWritten w out out' written text
     → Hands w out out' (or_status s written) text
 handed w out out' s (Ok u) text p = p.1
 handed w out out' s (Err unrun.Memory) text p = (omega (arith, p.1.0), (added (w.written out) (w.written out'), p.1.1))
 handed w out out' s (Err unrun.Output) text p = (p.1.0, (added (w.written out) (w.written out'), p.1.1))
-handed w out out' s (Err unrun.Usage) text p = absurd p.1
-handed w out out' s (Err unrun.NotHex) text p = absurd p.1
-handed w out out' s (Err unrun.NoFile) text p = absurd p.1
-handed w out out' s (Err unrun.NoRecords) text p = absurd p.1
-handed w out out' s (Err (unrun.LineNotHex n)) text p = absurd p.1
-handed w out out' s (Err (unrun.LineNoRecord n)) text p = absurd p.1
+handed w out out' s (Err why) text p = absurd p.1
 
 pub handed_as : {W F : Type 0} (w : Writes W F) (out out' : W) (s : ℕ) (written : Result (Unit {0}) NotRun) (result : Result ℕ NotRun) (text : List ℕ)
-    → result ≡ or_status s written → Arrived w out out' written text → Hands w out out' result text
+    → result ≡ or_status s written → IsWritten w out out' written text → Hands w out out' result text
 handed_as w out out' s written result text e p = subst (λ (z : Result ℕ NotRun). Hands w out out' z text) (sym e) (handed w out out' s written text p)
 
 -- what is held of a question, with more that is so of its subject
@@ -228,12 +213,12 @@ kept (Some a) (Some b) (Some c) x q p = q ∙ p
 -- a text that was written whole, but not handed on
 pub not_handed_on : {W F T E X G : Type 0} (w : Writes W F) (out mid out' : W) (r : Result T E) (f : Result X G) (text : List ℕ) → is_err r ≡ false → Sent w out mid r text
     → Keeps (w.written mid) (w.written out') → w.failed out' ≡ write_failures f (w.failed mid) → is_err f ≡ true → w.handle out' ≡ w.handle out
-    → Arrived w out out' (Err unrun.Output) text
+    → IsWritten w out out' (Err unrun.Output) text
 not_handed_on w out mid out' (Err x) f text e s k n o h = absurd (true≢false e)
 not_handed_on w out mid out' (Ok x) (Ok y) text e s k n o h = absurd (true≢false (sym o))
 not_handed_on w out mid out' (Ok x) (Err y) text e s k n o h =
     torn w out out' text h (n ∙ ap (λ (z : ℕ). z + 1) s.0)
     (length text, subst (Appends (w.written out) (w.written out')) (sym (take-length text)) (kept (w.written out) (w.written mid) (w.written out') text k s.1))
 
-pub same_handle : {W F : Type 0} (w : Writes W F) (out out' : W) (written : Result (Unit {0}) NotRun) (text : List ℕ) → Arrived w out out' written text → w.handle out' ≡ w.handle out
+pub same_handle : {W F : Type 0} (w : Writes W F) (out out' : W) (written : Result (Unit {0}) NotRun) (text : List ℕ) → IsWritten w out out' written text → w.handle out' ≡ w.handle out
 same_handle w out out' written text p = p.0

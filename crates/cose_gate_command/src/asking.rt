@@ -16,9 +16,9 @@ use cose_gate_program::{Limits, Notice, Terms, run_told};
 use cose_gate_records::Nowhere;
 use std::alloc::Global;
 
-/// Runs the gate as these arguments ask, with a judge that says yes to each question and writes its
-/// record to `out`, and hands it on, before it goes on. The lines go to `err`. The status is that of
-/// the run.
+/// Runs the gate as these arguments ask, with a judge that says yes to each question, and writes
+/// its record to `out` and hands it on before the next one is asked. The lines go to `err`. The
+/// status is that of the run.
 ///
 /// # Errors
 /// `Usage`, `NotHex` and `Memory`, before anything is read. `Output` if a record can't be written,

@@ -3,7 +3,7 @@ ghost use Rattle.std.specs.Prelude.{◌≡◌, ◌∷◌, ◌++◌, [], IfOk, On
 ghost use Rattle.cose_gate_core.specs.Lent.{subject_of};
 ghost use Rattle.cose_gate_core.specs.Questions.{Question};
 ghost use Rattle.cose_gate_command.specs.Lines.{fields_in, parts_of, told_as};
-ghost use Rattle.cose_gate_command.specs.Written.{Arrived, Asked, AreOut, parts_in};
+ghost use Rattle.cose_gate_command.specs.Written.{IsWritten, Asked, AreOut, parts_in};
 ghost use Rattle.cose_gate_command.specs.Written.{AreOut-prop};
 ghost use Rattle.cose_gate_records.specs.Kept.{IsHeld, pieces_of};
 
@@ -102,7 +102,7 @@ fn write_next<W: Write>(
     ensures before { OnErr written ((result ≡ written) × (out.new ≡ out.old)) }
     ensures next { OnOk written ((q : Question)
         → IfOk «record» (λ r. (fields.now, r.items) ≡ parts_of form q)
-        → Arrived W.Write out.old out.new result (told_as form q)) }
+        → IsWritten W.Write out.old out.new result (told_as form q)) }
 {
     written?;
     let Ok(record) = record else {
