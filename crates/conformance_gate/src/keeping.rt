@@ -104,7 +104,7 @@ pub fn subject(to: &mut Out, row: &mut &str) {
 
 /// How the expiry of claims stands to a time in seconds.
 pub fn expiry(to: &mut Out, row: &mut &str) {
-    let seconds = words::number(to, row) as i64;
+    let seconds = i64::try_from(words::number(to, row)).unwrap_or(i64::MAX);
     let claims = words::bytes(to, row);
     match callers::keeping::expiry_against(to.alloc(), &claims, seconds) {
         Ok(Some(Ordering::Less)) => to.text("less"),
