@@ -36,6 +36,8 @@ rows() {
 2|/dev/null|usage: cose-gate [--strict] [--verbose] [--quiet] KEYS [AADHEX] < INPUT > PASSED|cose-gate keys.cbor $'\xff' < one.cbor
 2|/dev/null|usage: cose-gate [--strict] [--verbose] [--quiet] KEYS [AADHEX] < INPUT > PASSED|../cose-gate --strikt keys.cbor
 2|/dev/null|usage: cose-gate [--strict] [--verbose] [--quiet] KEYS [AADHEX] < INPUT > PASSED|cose-gate keys.cbor --strikt < one.cbor
+2|/dev/null|usage: cose-gate --stream [--payload FILE] KEYS [AADHEX] < MESSAGE|cose-gate --stream --strict keys.cbor < one.cbor
+2|/dev/null|usage: cose-gate --stream [--payload FILE] KEYS [AADHEX] < MESSAGE|../cose-gate --stream --payload keys.cbor < one.cbor
 2|/dev/null|usage: cose-ask [--strict] [--lines] [--fields] [AADHEX]|cose-ask --strikt < one.cbor
 2|/dev/null|usage: cose-ask [--strict] [--lines] [--fields] [AADHEX]|cose-ask 01 02 < one.cbor
 2|/dev/null|usage: cose-ask [--strict] [--lines] [--fields] [AADHEX]|cose-ask $'\xff' < one.cbor
@@ -102,6 +104,15 @@ rows() {
 0||passed 2000, refused 0|cose-ask 01 < $T/many > $T/records
 0|$T/many|passed 2000, refused 0|cose-pass $T/records 01 < $T/many
 0|||[ "$(cose-show --json $T/many | wc -l)" = 2000 ]
+# one large message
+0|/dev/null|passed|cose-gate --stream keys.cbor 01 < one.cbor
+0|/dev/null|passed|cose-gate --stream --payload $T/payload keys.cbor 01 < one.cbor && printf hi | cmp - $T/payload && [ ! -e $T/payload.part ]
+1|/dev/null|refused: Judged|cose-gate --stream --payload $T/payload keys.cbor < one.cbor; s=$?; printf hi | cmp - $T/payload && [ ! -e $T/payload.part ] && exit $s
+3|/dev/null|  no such file|cose-gate --stream nosuch 01 < one.cbor
+4|/dev/null|stopped: write|cose-gate --stream --payload $T/no/payload keys.cbor 01 < one.cbor
+4|/dev/null|stopped: write|cose-gate --stream --payload $T keys.cbor 01 < one.cbor; s=$?; [ ! -e $T.part ] && exit $s
+1|/dev/null|refused: Judged|{ printf '\321\204\103\241\1\5\240\132\4\0\0\0'; head -c 67108864 /dev/zero; printf '\130\40'; head -c 32 /dev/zero; } | (ulimit -v 20000; cose-gate --stream --payload $T/large keys.cbor)
+4|/dev/null|stopped: write|{ printf '\321\204\103\241\1\5\240\132\4\0\0\0'; head -c 67108864 /dev/zero; printf '\130\40'; head -c 32 /dev/zero; } | (trap '' XFSZ; ulimit -f 100; cose-gate --stream --payload $T/large keys.cbor); s=$?; [ ! -e $T/large.part ] && exit $s
 # what stops a run
 4|one.cbor|stopped: decode: Io(EndOfFile)|cose-gate keys.cbor 01 < cut.cbor
 4|one.cbor|  nothing after it is judged; cose-show --cut 1 DIR writes each item to its own file|cose-gate --verbose keys.cbor 01 < cut.cbor

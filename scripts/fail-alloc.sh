@@ -47,7 +47,7 @@ only = os.environ.get("REFUSE")
 # isn't stdin.
 MIXED, KEYS = f"{top}/examples/mixed.cbor", f"{top}/examples/keys.cbor"
 RUNS = {
-    "cose_gate_cli": [("--strict --verbose keys.cbor 01", None)],
+    "cose_gate_cli": [("--strict --verbose keys.cbor 01", None), ("--stream keys.cbor 01", f"{top}/examples/one.cbor")],
     "cose_ask_cli": [("--strict 01", None), ("--lines 01", MIXED), ("--fields 01", MIXED)],
     "cose_pass_cli": [("accepted 01", MIXED)],
     "cose_show": [(f"--full --keys {KEYS} --aad 01", MIXED), ("--json ARGS", None), ("", KEYS), ("--json", KEYS)],

@@ -2,10 +2,11 @@
 use crate::out::{NoAnswer, Out};
 use crate::words;
 use ciborium_ll::Io;
-use cose_gate::{Mem, Write};
-use cose_gate_command::{NotRun, ask, ended, pass};
+use cose_gate::{Blocks, Mem, Write};
+use cose_gate_command::{KeyFile, NotRun, ask, ended, pass};
+use cose_stream::{end_status, stream, stream_arguments, tell_end};
 use std::alloc::Global;
-use std::io::{BufWriter, Cursor};
+use std::io::{BufReader, BufWriter, Cursor};
 use test_tools::Held;
 
 /// A run with these keys and this AADHEX: its status, its output, and its lines.
@@ -123,6 +124,61 @@ pub fn pass_command(to: &mut Out, row: &mut &str) {
         &mut err,
     );
     add_end(to, end, shown(&out), shown(&err));
+}
+
+/// The program `cose-gate` by the arguments of a command line after `--stream`: its status, the
+/// payload that was flushed, and its lines.
+pub fn stream_command(to: &mut Out, row: &mut &str) {
+    stream_flushed(to, usize::MAX, row);
+}
+
+/// The same, if the payload can be flushed so many times.
+pub fn stream_held(to: &mut Out, row: &mut &str) {
+    let flushes = words::number(to, row);
+    stream_flushed(to, flushes, row);
+}
+
+fn stream_flushed(to: &mut Out, flushes: usize, row: &mut &str) {
+    let mut out = Held::new(to.alloc(), flushes);
+    if let Some((status, err)) = streamed(to, row, &mut out) {
+        add_ended(to, status, shown(&out), shown(&err));
+    }
+}
+
+/// The same, if the payload has space for so many bytes, 64 at most.
+pub fn stream_in_room(to: &mut Out, row: &mut &str) {
+    let room = words::number(to, row);
+    let mut memory = [0; 64];
+    let mut out = Mem::new(&mut memory[..room.min(64)]);
+    if let Some((status, err)) = streamed(to, row, &mut out) {
+        add_ended(to, status, out.as_written(), shown(&err));
+    }
+}
+
+/// The check of a message that comes in blocks of seven bytes: the status, and the lines.
+fn streamed<W: Write>(to: &mut Out, row: &mut &str, out: &mut W) -> Option<(u8, Held)> {
+    let keys = words::optional(to, row);
+    let input = words::bytes(to, row);
+    let all = words::owned(to, row);
+    let Some(asked) = stream_arguments(&all) else {
+        to.text("usage");
+        return None;
+    };
+    let Ok(blocks) = BufReader::with_capacity(to.alloc(), 7, input.as_slice()) else {
+        to.refuse(NoAnswer::Memory);
+        return None;
+    };
+    let mut reader = Blocks::new(blocks);
+    let mut err = shown_writer(to);
+    let end = stream(to.alloc(), keys.as_deref(), asked.aad, &mut reader, out);
+    let status = end_status(&end);
+    let file = KeyFile {
+        name: asked.keys,
+        bytes: keys.as_deref(),
+        fault: "no such file",
+    };
+    tell_end(end, file, &mut err);
+    Some((status, err))
 }
 
 /// Appends how a program ended, with the line of why it didn't run.

@@ -18,31 +18,34 @@ use Rattle.cose_gate.specs.Streaming.{Tells, IsLongFor, fault_by}
 use Rattle.cose_gate.specs.ElementFaults.{Split, ShortFault}
 use Rattle.cose_gate.proofs.Faults.{Names, fault_holds}
 
--- the bytes b of a payload of `size` were fed, and `due` are to come
-abbrev pub Fed : {J : Type 0} → (J → Subject → List ℕ → Type 0) → J → J → ℕ → ℕ → List ℕ → Type 0
-Fed holds old new size due b = (length b + due ≡ size) × ((subject : Subject) (bytes : List ℕ) → holds old subject bytes → holds new subject (bytes ++ b))
+-- the bytes b of a payload of `size` were fed, and are as P says, and `due` are to come
+abbrev pub Fed : {J : Type 0} → (J → Subject → List ℕ → Type 0) → J → J → (List ℕ → Type 0) → ℕ → ℕ → List ℕ → Type 0
+Fed holds old new P size due b = (length b + due ≡ size) × (((subject : Subject) (bytes : List ℕ) → holds old subject bytes → holds new subject (bytes ++ b)) × P b)
 
 -- the lengths of those pieces, whatever follows
 abbrev pub Begun : ℕ → ℕ → ℕ → List ℕ → List ℕ → Type 0
 Begun room size due old new = (pieces : List ℕ) × (new ≡ old ++ pieces) × ((more : List ℕ) → Cut room due more → Cut room size (pieces ++ more))
 
 module _ {J : Type 0} (holds : J → Subject → List ℕ → Type 0) where
-  pub fed_start : (j : J) (size : ℕ) (l : Option (List ℕ)) (o : ℕ) → Moves l l o o (Fed holds j j size size)
-  fed_start j size l o = takes_none l o _ (omega arith, λ subject bytes h. subst (λ (z : List ℕ). holds j subject z) (append_nil bytes) h)
+  pub fed_start : (j : J) (P : List ℕ → Type 0) (size : ℕ) (l : Option (List ℕ)) (o : ℕ) → P [] → Moves l l o o (Fed holds j j P size size)
+  fed_start j P size l o p = takes_none l o _ (omega arith, ((λ subject bytes h. subst (λ (z : List ℕ). holds j subject z) (append_nil bytes) h), p))
 
-  pub fed_more : (a b c : J) (size due due' count : ℕ) (l₀ l₁ l₂ : Option (List ℕ)) (o₀ o₁ o₂ : ℕ) (read piece : List ℕ) → Moves l₀ l₁ o₀ o₁ (Fed holds a b size due)
+  pub fed_more : (a b c : J) (P Q : List ℕ → Type 0) (size due due' count : ℕ) (l₀ l₁ l₂ : Option (List ℕ)) (o₀ o₁ o₂ : ℕ) (read piece : List ℕ) → Moves l₀ l₁ o₀ o₁ (Fed holds a b P size due)
       → Consumes l₁ l₂ read → o₂ ≡ o₁ + count → length read ≡ count → piece ≡ read → due' + count ≡ due
-      → ((subject : Subject) (bytes : List ℕ) → holds b subject bytes → holds c subject (bytes ++ piece)) → Moves l₀ l₂ o₀ o₂ (Fed holds a c size due')
-  fed_more a b c size due due' count l₀ l₁ l₂ o₀ o₁ o₂ read piece t taken grown len same left feed =
-      takes_then l₀ l₁ l₂ o₀ o₁ o₂ (Fed holds a b size due) (λ (y : List ℕ). y ≡ read) (Fed holds a c size due') t (record { bytes = read; has = refl; taken = taken; grown = omega arith })
+      → ((subject : Subject) (bytes : List ℕ) → holds b subject bytes → holds c subject (bytes ++ piece)) → ((x : List ℕ) → P x → Q (x ++ piece)) → Moves l₀ l₂ o₀ o₂ (Fed holds a c Q size due')
+  fed_more a b c P Q size due due' count l₀ l₁ l₂ o₀ o₁ o₂ read piece t taken grown len same left feed more =
+      takes_then l₀ l₁ l₂ o₀ o₁ o₂ (Fed holds a b P size due) (λ (y : List ℕ). y ≡ read) (Fed holds a c Q size due') t (record { bytes = read; has = refl; taken = taken; grown = omega arith })
       (λ x y p e. (
         (let k : length (x ++ y) ≡ length x + length y = length-append x y in let m : length y ≡ length read = ap length e in omega (arith, p.0)),
-        λ subject bytes h. subst (λ (z : List ℕ). holds c subject z) (ap (λ z. (bytes ++ x) ++ z) (same ∙ sym e) ∙ append_assoc bytes x y) (feed subject (bytes ++ x) (p.1 subject bytes h)),
+        (
+          (λ subject bytes h. subst (λ (z : List ℕ). holds c subject z) (ap (λ z. (bytes ++ x) ++ z) (same ∙ sym e) ∙ append_assoc bytes x y) (feed subject (bytes ++ x) (p.1.0 subject bytes h))),
+          subst (λ (z : List ℕ). Q (x ++ z)) (same ∙ sym e) (more x p.1.1),
+        ),
       ))
 
-  pub fed_all : (a b : J) (size due : ℕ) (l₀ l₁ : Option (List ℕ)) (o₀ o₁ : ℕ) → Moves l₀ l₁ o₀ o₁ (Fed holds a b size due) → due ≡ 0
-      → Moves l₀ l₁ o₀ o₁ (λ (x : List ℕ). (length x ≡ size) × ((subject : Subject) (bytes : List ℕ) → holds a subject bytes → holds b subject (bytes ++ x)))
-  fed_all a b size due l₀ l₁ o₀ o₁ t none = takes_as l₀ l₁ o₀ o₁ _ _ t (λ x p. (omega (arith, p.0), p.1))
+  pub fed_all : (a b : J) (P : List ℕ → Type 0) (size due : ℕ) (l₀ l₁ : Option (List ℕ)) (o₀ o₁ : ℕ) → Moves l₀ l₁ o₀ o₁ (Fed holds a b P size due) → due ≡ 0
+      → Moves l₀ l₁ o₀ o₁ (λ (x : List ℕ). (length x ≡ size) × (((subject : Subject) (bytes : List ℕ) → holds a subject bytes → holds b subject (bytes ++ x)) × P x))
+  fed_all a b P size due l₀ l₁ o₀ o₁ t none = takes_as l₀ l₁ o₀ o₁ _ _ t (λ x p. (omega (arith, p.0), p.1))
 
 pub begun_start : (room size : ℕ) (old : List ℕ) → Begun room size size old old
 begun_start room size old = ([], append_nil old, λ more c. c)
@@ -60,12 +63,12 @@ pub begun_all : (room size due : ℕ) (old new : List ℕ) → Begun room size d
 begun_all room size due old new b none = (b.0, b.1, subst (λ (z : List ℕ). Cut room size z) (sym (append_nil b.0)) (b.2 [] none))
 
 -- too few bytes are left
-pub short_names : {E J : Type 0} (ends : E → Bool) (holds : J → Subject → List ℕ → Type 0) (a b : J) (size due count room : ℕ) (l₀ l₁ : Option (List ℕ)) (o₀ o₁ : ℕ) (Waits : Type 0) (e : HeadError E)
-    → Moves l₀ l₁ o₀ o₁ (Fed holds a b size due) → count ≤ due → count ≤ room → (Waits → ⊥) → RawFault ends (IsShort l₁ count) (2 ^ 64 ≤ o₁ + count) Waits e
+pub short_names : {E J : Type 0} (ends : E → Bool) (holds : J → Subject → List ℕ → Type 0) (a b : J) (P : List ℕ → Type 0) (size due count room : ℕ) (l₀ l₁ : Option (List ℕ)) (o₀ o₁ : ℕ) (Waits : Type 0) (e : HeadError E)
+    → Moves l₀ l₁ o₀ o₁ (Fed holds a b P size due) → count ≤ due → count ≤ room → (Waits → ⊥) → RawFault ends (IsShort l₁ count) (2 ^ 64 ≤ o₁ + count) Waits e
     → Names ends (λ stop b. ShortFault size b) room l₀ o₀ (fault_by (lifted e))
-short_names ends holds a b size due count room l₀ l₁ o₀ o₁ Waits e t le fit never w = (fault_holds (lifted e), place l₀ l₁ t w)
+short_names ends holds a b P size due count room l₀ l₁ o₀ o₁ Waits e t le fit never w = (fault_holds (lifted e), place l₀ l₁ t w)
   where
-    place : (l₀ l₁ : Option (List ℕ)) → Moves l₀ l₁ o₀ o₁ (Fed holds a b size due) → RawFault ends (IsShort l₁ count) (2 ^ 64 ≤ o₁ + count) Waits e
+    place : (l₀ l₁ : Option (List ℕ)) → Moves l₀ l₁ o₀ o₁ (Fed holds a b P size due) → RawFault ends (IsShort l₁ count) (2 ^ 64 ≤ o₁ + count) Waits e
         → IfKnown l₀ (λ b. Tells ends (ShortFault size b) (IsLongFor room o₀ b) (fault_by (lifted e)))
     place None l₁ t w = tt
     place (Some x) None t w = absurd t.taken

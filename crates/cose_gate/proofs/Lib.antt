@@ -1,3 +1,4 @@
+pub mod Copied
 pub mod Elements
 pub mod Exactly
 pub mod Facts

@@ -24,15 +24,16 @@ use Rattle.cose_gate_core.specs.RecipientView.{recipients_view}
 use Rattle.cose_gate_core.specs.CoseRecipient.{CoseRecipient}
 use Rattle.cose_gate_core.specs.Asked.{first_no, folded_over}
 use Rattle.cose_gate_core.specs.Findings.{Bounds}
-use Rattle.cose_gate_core.specs.Questions.{Question, Subject, alone}
+use Rattle.cose_gate_core.specs.Questions.{Question, Subject, alone, payload_of}
 use Rattle.cose_gate_core.specs.declared.about.About.{About}
 use Rattle.cose_gate_core.specs.declared.about.MessageKind.{MessageKind}
 use Rattle.cose_gate_core.specs.Lent.{subject_of, signer_of}
 use Rattle.cose_gate_core.specs.Received.{received_bytes}
 use Rattle.cose_gate.specs.declared.form.Form.{Form}
 use Rattle.cose_gate.specs.Forms.{tag_number, message_of, received_of}
+use Rattle.cose_gate.specs.declared.form.Form.TheVariants as form
 use Rattle.cose_gate.specs.Stated.{IsFour, closing, InPieces}
-use Rattle.cose_gate.specs.Streaming.{CheckedBy}
+use Rattle.cose_gate.specs.Streaming.{CopiedBy}
 use Rattle.cose_gate.specs.ElementFaults.{IsPart, Split}
 use Rattle.cose_gate.proofs.Forms.{single_tag, single, judged_of, question_of, one_question}
 
@@ -139,17 +140,21 @@ first_alone : (b : Bool) → b ≡ is_none (cond b (option_map (λ (n : ℕ). n 
 first_alone true = refl
 first_alone false = refl
 
+carries : (f : Form) (p : ProtectedFields) (h : HeaderFields) (payload s : List ℕ) → payload_of (message_of f p h payload s) ≡ Some payload
+carries form.Sign1 p h payload s = refl
+carries form.Mac0 p h payload s = refl
+
 pub checked : {T : Type 0} (limits : Bounds) → 2 ≤ limits.nesting → (decided : T → Question → T) (allows : Question → Bool) (aad body : List ℕ) (told told' : T) (room : ℕ) (lengths : List ℕ) (says : Bool) (l₀ l₁ l₂ l₃ : Option (List ℕ)) (o₀ o₁ o₂ o₃ n : ℕ) (f : Form) (o : Option ℕ) (a b : Tree)
-    (p : ProtectedFields) (h : HeaderFields) (s : List ℕ) (P : List ℕ → Type 0) → HasProtected limits.nesting a p limits.layers → HasHeader limits.nesting b h limits.layers → received_of p ≡ Some body → InPieces n room lengths
+    (p : ProtectedFields) (h : HeaderFields) (s : List ℕ) (P C : List ℕ → Type 0) → HasProtected limits.nesting a p limits.layers → HasHeader limits.nesting b h limits.layers → received_of p ≡ Some body → InPieces n room lengths
     → ((payload : List ℕ) → length payload ≡ n → P payload → (says ≡ allows (question_of f p h body aad payload s)) × (told' ≡ decided told (question_of f p h body aad payload s)))
-    → Moves l₀ l₁ o₀ o₁ (Paid limits f o a b n P) → Moves l₁ l₂ o₁ o₂ (λ (x : List ℕ). Reads x (limits.nesting - 2) (bytes s)) → Moves l₂ l₃ o₂ o₃ (λ (x : List ℕ). x ≡ closing o)
-    → Moves l₀ l₃ o₀ o₃ (CheckedBy limits decided allows aad told told' room lengths says)
-checked limits two_below decided allows aad body told told' room lengths says l₀ l₁ l₂ l₃ o₀ o₁ o₂ o₃ n f o a b p h s P hp hh got cut ask paid sig end =
-    takes_then l₀ l₁ l₃ o₀ o₁ o₃ (Paid limits f o a b n P) (λ (x : List ℕ). (y : List ℕ) × Reads y (limits.nesting - 2) (bytes s) × (x ≡ y ++ closing o)) _ paid
+    → Moves l₀ l₁ o₀ o₁ (Paid limits f o a b n (λ (x : List ℕ). P x × C x)) → Moves l₁ l₂ o₁ o₂ (λ (x : List ℕ). Reads x (limits.nesting - 2) (bytes s)) → Moves l₂ l₃ o₂ o₃ (λ (x : List ℕ). x ≡ closing o)
+    → Moves l₀ l₃ o₀ o₃ (CopiedBy limits decided allows aad told told' room lengths C says)
+checked limits two_below decided allows aad body told told' room lengths says l₀ l₁ l₂ l₃ o₀ o₁ o₂ o₃ n f o a b p h s P C hp hh got cut ask paid sig end =
+    takes_then l₀ l₁ l₃ o₀ o₁ o₃ (Paid limits f o a b n (λ (x : List ℕ). P x × C x)) (λ (x : List ℕ). (y : List ℕ) × Reads y (limits.nesting - 2) (bytes s) × (x ≡ y ++ closing o)) _ paid
     (takes_then l₁ l₂ l₃ o₁ o₂ o₃ _ _ (λ (x : List ℕ). (y : List ℕ) × Reads y (limits.nesting - 2) (bytes s) × (x ≡ y ++ closing o)) sig end (λ x y r e. (x, r, ap (λ z. x ++ z) e)))
     (λ x y w r. all x y w r.0 r.1 r.2)
   where
-    all : (x y : List ℕ) → Paid limits f o a b n P x → (last : List ℕ) → Reads last (limits.nesting - 2) (bytes s) → y ≡ last ++ closing o → CheckedBy limits decided allows aad told told' room lengths says (x ++ y)
+    all : (x y : List ℕ) → Paid limits f o a b n (λ (x : List ℕ). P x × C x) x → (last : List ℕ) → Reads last (limits.nesting - 2) (bytes s) → y ≡ last ++ closing o → CopiedBy limits decided allows aad told told' room lengths C says (x ++ y)
     all x y w last r e =
         let v = w.within in
         let two = v.reads in
@@ -163,40 +168,45 @@ checked limits two_below decided allows aad body told told' room lengths says l�
         ap (λ z. z ++ y) (w.whole ∙ ap (λ z. z ++ (w.title ++ w.payload)) v.whole)
         ∙ append_assoc (v.tag_title ++ (v.array_title ++ v.inner)) (w.title ++ w.payload) y ∙ append_assoc v.tag_title (v.array_title ++ v.inner) ((w.title ++ w.payload) ++ y)
         ∙ ap (λ z. v.tag_title ++ z) (append_assoc v.array_title v.inner ((w.title ++ w.payload) ++ y)) ∙ ap (λ z. v.tag_title ++ (v.array_title ++ (v.inner ++ z))) behind in
-        let said = ask w.payload w.is_payload w.has in
+        let said = ask w.payload w.is_payload w.has.0 in
         let one = one_question f p h body aad w.payload s got in
         record {
-          item = item;
-          message = message_of f p h w.payload s;
-          size = n;
-          reads = subst (λ (z : List ℕ). Reads z limits.nesting item) (sym joint) (four_reads limits two_below f o vs ((w.front ++ (w.title ++ w.payload)) ++ last) refl four);
-          is = judged_of limits f a b p h w.payload s hp hh;
-          single = single f p h w.payload s;
-          stated = record {
-            number = tag_number f;
-            is_single = single_tag f;
-            tag_title = v.tag_title;
-            array_title = v.array_title;
-            count = o;
-            headers = v.inner;
-            two = two.trees;
-            length_title = w.title;
-            payload = w.payload;
-            last = last;
-            signature = r.tree;
-            is_tag = v.is_tag;
-            is_array = v.is_array;
-            is_four = v.is_four;
-            are_two = all_count two.trees (one_more a (one_more b no_trees)) two.means;
-            spells = two.spells;
-            is_length = w.is_title;
-            is_payload = w.is_payload;
-            spells_last = r.spells;
-            whole = flat;
+          checked = record {
+            item = item;
+            message = message_of f p h w.payload s;
+            size = n;
+            reads = subst (λ (z : List ℕ). Reads z limits.nesting item) (sym joint) (four_reads limits two_below f o vs ((w.front ++ (w.title ++ w.payload)) ++ last) refl four);
+            is = judged_of limits f a b p h w.payload s hp hh;
+            single = single f p h w.payload s;
+            stated = record {
+              number = tag_number f;
+              is_single = single_tag f;
+              tag_title = v.tag_title;
+              array_title = v.array_title;
+              count = o;
+              headers = v.inner;
+              two = two.trees;
+              length_title = w.title;
+              payload = w.payload;
+              last = last;
+              signature = r.tree;
+              is_tag = v.is_tag;
+              is_array = v.is_array;
+              is_four = v.is_four;
+              are_two = all_count two.trees (one_more a (one_more b no_trees)) two.means;
+              spells = two.spells;
+              is_length = w.is_title;
+              is_payload = w.is_payload;
+              spells_last = r.spells;
+              whole = flat;
+            };
+            answer = said.0 ∙ first_alone _ ∙ ap (λ (qs : List Question). is_none (first_no allows qs)) (sym one);
+            tells = said.1 ∙ ap (λ (qs : List Question). folded_over decided told qs) (sym one);
+            pieces = cut;
           };
-          answer = said.0 ∙ first_alone _ ∙ ap (λ (qs : List Question). is_none (first_no allows qs)) (sym one);
-          tells = said.1 ∙ ap (λ (qs : List Question). folded_over decided told qs) (sym one);
-          pieces = cut;
+          payload = w.payload;
+          is_payload = carries f p h w.payload s;
+          is_copied = w.has.1;
         }
 
 -- what the judge is told of the message

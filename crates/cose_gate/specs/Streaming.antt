@@ -1,5 +1,8 @@
 -- What the streaming check returns, over the bytes that were to come.
-use Rattle.std.specs.Prelude.{◌≡◌, ◌≢◌, ℕ, ◌+◌, ◌-◌, ◌^◌, ◌<◌, ◌≤◌, max, ◌⊎◌, List, ◌∷◌, ◌++◌, length, Option, None, Bool, false, IsTrue, Result, Ok, Err, is_none, if◌then◌else◌}
+use Rattle.std.specs.Prelude.{◌≡◌, ◌≢◌, ℕ, ◌+◌, ◌-◌, ◌^◌, ◌<◌, ◌≤◌, max, ◌⊎◌, List, ◌∷◌, ◌++◌, length, Option, None, Some, Bool, false, IsTrue, Result, Ok, Err, OnOk, OnErr, is_none, if◌then◌else◌}
+use Rattle.std.specs.Io.KnownBytes.{Appends}
+use Rattle.ciborium_ll.specs.Device.{AppendsFront, write_failures}
+use Rattle.ciborium_ll.specs.declared.write.Write.{Ghosts as Writes}
 use Rattle.ciborium_ll.specs.declared.hdr.Header.{Header}
 use Rattle.ciborium_ll.specs.declared.hdr.Header.TheVariants.{Simple, Tag, Bytes, Array, Break}
 use Rattle.ciborium_ll.specs.Seen.{Seen}
@@ -17,7 +20,7 @@ use Rattle.coset_headers.specs.Wrong.{WrongProtected, WrongHeader}
 use Rattle.coset_labels.specs.Faults.{CoseFault, fault_of, no_memory, unexpected}
 use Rattle.coset_labels.specs.declared.error.CoseError.{CoseError}
 use Rattle.coset_labels.specs.declared.error.CoseError.TheVariants as cose
-use Rattle.cose_gate_core.specs.Questions.{Question, MessageFields, questions}
+use Rattle.cose_gate_core.specs.Questions.{Question, MessageFields, questions, payload_of}
 use Rattle.cose_gate_core.specs.Asked.{first_no, folded_over}
 use Rattle.cose_gate_core.specs.Findings.{Bounds, usual, IsJudged, IsMisshapen}
 use Rattle.cose_gate.specs.Stated.{IsSingleTag, IsSingle, IsFour, Stated, InPieces}
@@ -39,6 +42,22 @@ pub record CheckedBy {T : Type 0} (limits : Bounds) (decided : T → Question �
   pub answer : yes ≡ is_none (first_no allows (questions message aad))
   pub tells : told' ≡ folded_over decided told (questions message aad)
   pub pieces : InPieces size room lengths
+
+-- a text was written; or a beginning of it, and then the writer failed
+pub record WritesAll {T W F : Type 0} (w : Writes W F) (old new : W) (answer : Result T F)
+    (text : List ℕ) : Type 0 where
+  pub ok : OnOk answer (Appends (w.written old) (w.written new) text)
+  pub err : OnErr answer (AppendsFront (w.written old) (w.written new) text)
+  pub failed : w.failed new ≡ write_failures answer (w.failed old)
+
+-- such a message, of whose payload something is true
+pub record CopiedBy {T : Type 0} (limits : Bounds) (decided : T → Question → T)
+    (allows : Question → Bool) (aad : List ℕ) (told told' : T) (room : ℕ) (lengths : List ℕ)
+    (IsCopied : List ℕ → Type 0) (yes : Bool) (b : List ℕ) : Type 0 where
+  pub checked : CheckedBy limits decided allows aad told told' room lengths yes b
+  pub payload : List ℕ
+  pub is_payload : payload_of checked.message ≡ Some payload
+  pub is_copied : IsCopied payload
 
 -- within the limits if none are chosen
 abbrev pub Checked : {T : Type 0} → (T → Question → T) → (Question → Bool) → List ℕ → T → T → ℕ

@@ -4,53 +4,18 @@ ghost use Rattle.ciborium_ll.specs.Seen.{Takes};
 ghost use Rattle.ciborium_ll.specs.Views.{offset_of, seen};
 ghost use Rattle.coset_labels.specs.Limits.{nesting_of, layers_of};
 ghost use Rattle.cose_gate_core.specs.Findings.{plain};
-ghost use Rattle.cose_gate.specs.Streaming.{Checked, CheckedBy, Unstreamed, UnstreamedBy};
-ghost use Rattle.cose_gate.specs.Streaming.{IsFarFor, NamesWhy, Steady, AnswersStated};
-ghost use Rattle.cose_gate.specs.Streaming.{AnswersStatedBy};
+ghost use Rattle.cose_gate.specs.Streaming.{Checked, CheckedBy, CopiedBy, WritesAll};
+ghost use Rattle.cose_gate.specs.Streaming.{Unstreamed, UnstreamedBy, IsFarFor, NamesWhy, Steady};
+ghost use Rattle.cose_gate.specs.Streaming.{AnswersStated, AnswersStatedBy};
 
 use crate::fault::StreamFault;
 use crate::feeding::{feed_front, feed_payload};
 use crate::parts::{protected_part, signature_part, unprotected_part};
 use crate::titles::{close, four, message_tag, payload_size};
-use ciborium_ll::{Decoder, Read};
+use ciborium_ll::{Decoder, Read, Write};
 use cose_gate_core::{About, Judge, Limits, received};
+use cose_gate_records::Nowhere;
 use std::alloc::Global;
-
-/// Reads the parts, and asks.
-fn streamed<R: Read, J: Judge>(
-    alloc: Global,
-    limits: Limits,
-    decoder: &mut Decoder<R>,
-    buffer: &mut [u8],
-    aad: &[u8],
-    judge: &mut J,
-) -> Result<bool, StreamFault<R::Error>>
-    requires room { 0 < length buffer.old }
-    ensures ok { IfOk result (λ yes. Takes (seen R.Read decoder.old) (seen R.Read decoder.new)
-        (CheckedBy (plain (nesting_of limits) (layers_of limits)) J.decided
-        (J.yes (J.who judge.old)) aad.now (J.told judge.old) (J.told judge.new)
-        (length buffer.old) (J.pieces judge.new) yes)) }
-    ensures err { IfErr result (NamesWhy R.ends
-        (UnstreamedBy (plain (nesting_of limits) (layers_of limits))) (length buffer.old)
-        (seen R.Read decoder.old)) }
-    ensures told { OnErr result (J.told judge.new ≡ J.told judge.old) }
-    ensures who { J.who judge.new ≡ J.who judge.old }
-    ensures far { IfErr result (IsFarFor (length buffer.old) (offset_of decoder.new)) }
-    ensures steady { Steady R.ends result (seen R.Read decoder.old) (seen R.Read decoder.new) }
-{
-    let form = message_tag(decoder)?;
-    let count = four(decoder)?;
-    let protected = protected_part(alloc, limits, decoder)?;
-    let unprotected = unprotected_part(alloc, limits, decoder)?;
-    let size = payload_size(decoder, form)?;
-    let about = About::alone(form.kind(), &protected, &unprotected);
-    judge.begin(&about)?;
-    feed_front(form, received(&protected), aad, size, judge)?;
-    feed_payload(decoder, buffer, size, judge)?;
-    let signature = signature_part(alloc, limits, decoder)?;
-    close(decoder, count)?;
-    Ok(judge.decide(&signature))
-}
 
 /// Checks one tagged COSE_Sign1 or COSE_Mac0 that carries its payload as a byte string of stated
 /// length: the payload passes through the buffer, piece by piece, and is never gathered. The judge
@@ -141,5 +106,67 @@ pub fn stream_check_with<R: Read, J: Judge>(
     ensures exactly { AnswersStatedBy (plain (nesting_of limits) (layers_of limits)) R.ends
         (length buffer.old) (seen R.Read decoder.old) result }
 {
-    streamed(alloc, limits, decoder, buffer, aad, judge)
+    match stream_check_into(alloc, limits, decoder, buffer, aad, judge, &mut Nowhere) {
+        Ok(streamed) => Ok(streamed.yes),
+        Err(fault) => Err(fault),
+    }
+}
+
+/// How a message was checked whose payload was written.
+#[derive(Debug, PartialEq, Eq, Drop)]
+pub struct Streamed<E> {
+    /// The judge's answer.
+    pub yes: bool,
+    /// Whether the whole payload was written; if not, the writer's fault.
+    pub written: Result<(), E>,
+}
+
+/// As `stream_check_with`, and writes each piece of the payload to `out` once it was read. What is
+/// written may be used only after a yes. If the writer fails, nothing more is written, and the
+/// message is checked to its end.
+///
+/// # Errors
+/// Those of `stream_check`; then a beginning of the payload may be written.
+pub fn stream_check_into<R: Read, J: Judge, W: Write>(
+    alloc: Global,
+    limits: Limits,
+    decoder: &mut Decoder<R>,
+    buffer: &mut [u8],
+    aad: &[u8],
+    judge: &mut J,
+    out: &mut W,
+) -> Result<Streamed<W::Error>, StreamFault<R::Error>>
+    requires room { 0 < length buffer.old }
+
+    // A judged message of a stated length was taken whole, and its payload written, if the writer
+    // didn't fail; the answer is the judge's to its questions, and it was told of them alone.
+    ensures ok { IfOk result (λ s. Takes (seen R.Read decoder.old) (seen R.Read decoder.new)
+        (CopiedBy (plain (nesting_of limits) (layers_of limits)) J.decided
+        (J.yes (J.who judge.old)) aad.now (J.told judge.old) (J.told judge.new)
+        (length buffer.old) (J.pieces judge.new)
+        (WritesAll W.Write out.old out.new s.written) s.yes)) }
+
+    // Each fault says what is true of the bytes, and the judge was told nothing.
+    ensures err { IfErr result (NamesWhy R.ends
+        (UnstreamedBy (plain (nesting_of limits) (layers_of limits))) (length buffer.old)
+        (seen R.Read decoder.old)) }
+    ensures told { OnErr result (J.told judge.new ≡ J.told judge.old) }
+    ensures who { J.who judge.new ≡ J.who judge.old }
+    ensures far { IfErr result (IsFarFor (length buffer.old) (offset_of decoder.new)) }
+    ensures steady { Steady R.ends result (seen R.Read decoder.old) (seen R.Read decoder.new) }
+    ensures lent { W.handle out.new ≡ W.handle out.old }
+{
+    let form = message_tag(decoder)?;
+    let count = four(decoder)?;
+    let protected = protected_part(alloc, limits, decoder)?;
+    let unprotected = unprotected_part(alloc, limits, decoder)?;
+    let size = payload_size(decoder, form)?;
+    let about = About::alone(form.kind(), &protected, &unprotected);
+    judge.begin(&about)?;
+    feed_front(form, received(&protected), aad, size, judge)?;
+    let written = feed_payload(decoder, buffer, size, judge, out)?;
+    let signature = signature_part(alloc, limits, decoder)?;
+    close(decoder, count)?;
+    let yes = judge.decide(&signature);
+    Ok(Streamed { yes, written })
 }

@@ -2,6 +2,9 @@
 //! input, and writes the messages whose tags are good under the keys of the file KEYS to standard
 //! output. AADHEX is the external data in hex. With `--strict` only messages in canonical encoding
 //! pass; with `--verbose` standard error says more, with `--quiet` nothing of what passed.
+//!
+//! `cose-gate --stream [--payload FILE] KEYS [AADHEX]`: checks that standard input is one such
+//! message, as it comes, and puts its payload into FILE if its tag is good.
 #![tactic(auto)]
 
 ghost use Rattle.std.specs.Prelude.{map, option_copied, string_bytes};
@@ -9,6 +12,9 @@ ghost use Rattle.cose_gate_command.specs.Arguments as spec;
 ghost use Rattle.cose_gate_command.specs.Ends.{EndsBy};
 ghost use Rattle.cose_gate_program.specs.Program.{devices_of};
 
+mod streaming;
+
+use crate::streaming::start_stream;
 use ciborium_ll::{Read, Write};
 use cose_gate_command::{
     Content, NotRun, USAGE, asks_for_help, asks_for_version, ended, program, read_arguments,
@@ -28,6 +34,7 @@ const VERSION: &str = "cose-gate 0.8\n";
 /// What `-h` and `--help` print. The script `cose-gate` prints the same.
 const HELP: &str = "\
 usage: cose-gate [--strict] [--verbose] [--quiet] KEYS [AADHEX] < INPUT > PASSED
+       cose-gate --stream [--payload FILE] KEYS [AADHEX] < MESSAGE
 Reads a CBOR sequence, and writes the messages that pass, each in canonical encoding.
 What passes: a COSE_Mac0 in its tag 17, whose MAC is HMAC with SHA-256 under its first matching key.
 KEYS: a file with a COSE_KeySet. AADHEX: the external data in hex, empty if it is left out.
@@ -35,6 +42,8 @@ With --strict a message that isn't in canonical encoding already is refused: Not
 On standard error: a line for each item, and at the end how many passed and were refused.
 With --verbose indented lines after these say why an item is refused, or the run stops.
 With --quiet an item that passed has no line.
+With --stream the input is one such message, of any size: it is checked as it comes, and nothing
+is written to standard output. FILE gets its payload once its MAC is found to be good.
 Status 0: no item was refused. 1: some were. 2: wrong arguments, or AADHEX is not hex.
 3: KEYS can't be read, or isn't a key set. 4: the input isn't CBOR, input or output failed, or
 it is out of memory.
@@ -56,8 +65,10 @@ fn start(rt: &HostRuntime) -> Result<u8, NotRun> {
     if asks_for_version(words.as_slice()) {
         return write_help(VERSION, &mut rt.stdout());
     }
-    let keys = read_keys(rt, words.as_slice())?;
-    run_with(rt, words.as_slice(), keys)
+    match words.as_slice() {
+        [first, rest @ ..] if first.as_str() == "--stream" => start_stream(rt, rest),
+        words => run_with(rt, words, read_keys(rt, words)?),
+    }
 }
 
 /// What the file KEYS holds, if the arguments name one.
@@ -89,7 +100,7 @@ fn run_with(rt: &HostRuntime, words: &[String], keys: Content) -> Result<u8, Not
 }
 
 /// A block in front of larger ones.
-fn front(alloc: Global) -> Result<Vec<u8>, NotRun> {
+pub(crate) fn front(alloc: Global) -> Result<Vec<u8>, NotRun> {
     match Vec::with_capacity(alloc, FRONT) {
         Ok(front) => Ok(front),
         Err(_) => Err(NotRun::Memory),

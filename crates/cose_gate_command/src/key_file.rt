@@ -25,9 +25,9 @@ pub struct KeyFile<'a> {
     pub fault: &'a str,
 }
 
-/// Writes why KEYS can't be used, if that is why a run doesn't begin. Of the file it says only what
-/// kind it looks like.
-pub(crate) fn write_reason<W: Write>(why: NotBegun, file: KeyFile<'_>, out: &mut W)
+/// Writes why KEYS can't be used, in a line that begins with two blanks, if that is why a run
+/// doesn't begin, and flushes the writer. Of the file it says only what kind it looks like.
+pub fn write_reason<W: Write>(why: NotBegun, file: KeyFile<'_>, out: &mut W)
     ensures { Wrote W.Write out.old out.new
         (spec.reason_line file.entry.fault.now (option_copied file.entry.bytes) why) }
 {

@@ -28,7 +28,7 @@ mod verbose;
 pub use crate::arguments::{Arguments, read_arguments};
 pub use crate::asking::ask;
 pub use crate::command::{USAGE, program};
-pub use crate::key_file::KeyFile;
+pub use crate::key_file::{KeyFile, write_reason};
 pub use crate::not_run::NotRun;
 pub use crate::options::{PassArguments, pass_arguments};
 pub use crate::passing::pass;

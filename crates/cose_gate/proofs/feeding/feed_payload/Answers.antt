@@ -20,7 +20,8 @@ pieces-preserved g c =
       fresh = search rules;
       room = search rules;
       some = search rules;
-      taken = fed_more g.J.Judge.holds _ _ _ _ _ _ _ _ _ _ _ _ _ _ _ inv.taken c.in_ok-read_exact.ensures.ok c.in_ok-read_exact.ensures.grown (size ∙ sym asked) same (omega arith) c.in_ok-feed.ensures.holds;
+      lent = search rules;
+      taken = fed_more g.J.Judge.holds _ _ _ _ _ _ _ _ _ _ _ _ _ _ _ _ _ inv.taken c.in_ok-read_exact.ensures.ok c.in_ok-read_exact.ensures.grown (size ∙ sym asked) same (omega arith) c.in_ok-feed.ensures.holds (λ x p. c.write_on-written.ensures.grows _ x p);
       pieces = begun_more _ _ _ _ _ _ _ _ _ inv.pieces least some (omega arith) (ap length same ∙ size) c.in_ok-feed.ensures.pieces;
     }
 

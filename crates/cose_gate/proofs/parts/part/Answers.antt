@@ -2,7 +2,7 @@ use Rattle.std.proofs.Common.{ap, sym, ◌∙◌}
 use Rattle.std.proofs.lemmas.Result.{err_from_is_err_and}
 use Rattle.cose_gate.proofs.Faults.{part_title_tells, part_item, part_as, put_back, reads_as, fresh_due}
 use Rattle.cose_gate.specs.ElementFaults.{NoneWrong}
-use Rattle.cose_gate.proofs.Far.{far_item, far_unexpected}
+use Rattle.cose_gate.proofs.Far.{far_item}
 use Rattle.cose_gate.proofs.parts.part.Goals as goal
 
 pub returns-in_err-header-clause-err : goal.returns-in_err-header-clause-err

@@ -9,7 +9,7 @@ use Rattle.cose_gate.proofs.Heads.{four_tells, size_tells}
 use Rattle.cose_gate.proofs.Whole.{within_start, within_more, part_is, paid, paid_within, checked, received_is, subject_is, question_is, in_pieces, asked_as}
 use Rattle.cose_gate_core.specs.Findings.{plain}
 use Rattle.cose_gate.proofs.Far.{far_more}
-use Rattle.cose_gate.proofs.checking.streamed.Goals as goal
+use Rattle.cose_gate.proofs.checking.stream_check_into.Goals as goal
 
 pub returns-in_err-form-clause-err : goal.returns-in_err-form-clause-err
 returns-in_err-form-clause-err g c =
@@ -55,14 +55,14 @@ returns-in_err-feed_front-clause-err g c =
     let w0 = within_start (plain c.args.limits.nesting c.args.limits.layers) _ _ _ _ _ _ _ _ c.in_ok-form.ensures.ok c.in_ok-count.ensures.ok c.in_ok-count.ensures.is in
     rw (p.1, p.2) (tt, refused_tells (plain c.args.limits.nesting c.args.limits.layers) _ _ _ _ _ _ _ w0)
 
-pub returns-in_err-feed_payload-clause-err : goal.returns-in_err-feed_payload-clause-err
-returns-in_err-feed_payload-clause-err g c =
-    let p = err_from_is_err_and c.from_residual-in_err-feed_payload.result c.from_residual-in_err-feed_payload.ensures.1 in
+pub returns-in_err-written-clause-err : goal.returns-in_err-written-clause-err
+returns-in_err-written-clause-err g c =
+    let p = err_from_is_err_and c.from_residual-in_err-written.result c.from_residual-in_err-written.ensures.1 in
     let w0 = within_start (plain c.args.limits.nesting c.args.limits.layers) _ _ _ _ _ _ _ _ c.in_ok-form.ensures.ok c.in_ok-count.ensures.ok c.in_ok-count.ensures.is in
     let a = part_is _ _ _ _ _ _ c.in_ok-protected.ensures.ok in
     let b = part_is _ _ _ _ _ _ c.in_ok-unprotected.ensures.ok in
     let w2 = within_more (plain c.args.limits.nesting c.args.limits.layers) _ _ _ _ _ _ _ _ _ _ (within_more (plain c.args.limits.nesting c.args.limits.layers) _ _ _ _ _ _ _ _ _ _ w0 a.1) b.1 in
-    rw (p.1, p.2) (part_tells (plain c.args.limits.nesting c.args.limits.layers) c.args.limits.least_nesting g.R.Read.ends _ _ _ _ _ _ _ _ (one_more a.0 (one_more b.0 no_trees)) NoneWrong _ (le_refl _) w2 (omega arith) (any_place (plain c.args.limits.nesting c.args.limits.layers) _ (one_more a.0 (one_more b.0 no_trees)) ((protected_view c.in_ok-protected.protected, a.2), (header_view c.in_ok-unprotected.unprotected, b.2), tt)) (short_tells_part _ g.R.Read.ends _ _ _ _ _ _ _ c.in_ok-size.ensures.ok c.in_err-feed_payload.ensures.err))
+    rw (p.1, p.2) (part_tells (plain c.args.limits.nesting c.args.limits.layers) c.args.limits.least_nesting g.R.Read.ends _ _ _ _ _ _ _ _ (one_more a.0 (one_more b.0 no_trees)) NoneWrong _ (le_refl _) w2 (omega arith) (any_place (plain c.args.limits.nesting c.args.limits.layers) _ (one_more a.0 (one_more b.0 no_trees)) ((protected_view c.in_ok-protected.protected, a.2), (header_view c.in_ok-unprotected.unprotected, b.2), tt)) (short_tells_part _ g.R.Read.ends _ _ _ _ _ _ _ c.in_ok-size.ensures.ok c.in_err-written.ensures.err))
 
 pub returns-in_err-signature-clause-err : goal.returns-in_err-signature-clause-err
 returns-in_err-signature-clause-err g c =
@@ -71,7 +71,7 @@ returns-in_err-signature-clause-err g c =
     let a = part_is _ _ _ _ _ _ c.in_ok-protected.ensures.ok in
     let b = part_is _ _ _ _ _ _ c.in_ok-unprotected.ensures.ok in
     let w2 = within_more (plain c.args.limits.nesting c.args.limits.layers) _ _ _ _ _ _ _ _ _ _ (within_more (plain c.args.limits.nesting c.args.limits.layers) _ _ _ _ _ _ _ _ _ _ w0 a.1) b.1 in
-    let paying = paid (plain c.args.limits.nesting c.args.limits.layers) _ _ _ _ _ _ _ _ _ _ _ _ _ _ w2 c.in_ok-size.ensures.ok c.in_ok-feed_payload.ensures.ok in
+    let paying = paid (plain c.args.limits.nesting c.args.limits.layers) _ _ _ _ _ _ _ _ _ _ _ _ _ _ w2 c.in_ok-size.ensures.ok c.in_ok-written.ensures.ok in
     let w3 = paid_within (plain c.args.limits.nesting c.args.limits.layers) _ _ _ _ _ _ _ _ _ _ paying in
     rw (p.1, p.2) (part_tells (plain c.args.limits.nesting c.args.limits.layers) c.args.limits.least_nesting g.R.Read.ends _ _ _ _ 0 _ _ _ (one_more a.0 (one_more b.0 (one_more (bytes w3.0) no_trees))) NoBytes _ (omega arith) w3.1 (omega arith) (signature_place (plain c.args.limits.nesting c.args.limits.layers) _ a.0 b.0 w3.0 (protected_view c.in_ok-protected.protected, a.2) (header_view c.in_ok-unprotected.unprotected, b.2)) c.in_err-signature.ensures.err)
 
@@ -82,7 +82,7 @@ returns-in_err-close-clause-err g c =
     let a = part_is _ _ _ _ _ _ c.in_ok-protected.ensures.ok in
     let b = part_is _ _ _ _ _ _ c.in_ok-unprotected.ensures.ok in
     let w2 = within_more (plain c.args.limits.nesting c.args.limits.layers) _ _ _ _ _ _ _ _ _ _ (within_more (plain c.args.limits.nesting c.args.limits.layers) _ _ _ _ _ _ _ _ _ _ w0 a.1) b.1 in
-    let paying = paid (plain c.args.limits.nesting c.args.limits.layers) _ _ _ _ _ _ _ _ _ _ _ _ _ _ w2 c.in_ok-size.ensures.ok c.in_ok-feed_payload.ensures.ok in
+    let paying = paid (plain c.args.limits.nesting c.args.limits.layers) _ _ _ _ _ _ _ _ _ _ _ _ _ _ w2 c.in_ok-size.ensures.ok c.in_ok-written.ensures.ok in
     let w3 = paid_within (plain c.args.limits.nesting c.args.limits.layers) _ _ _ _ _ _ _ _ _ _ paying in
     let w4 = within_more (plain c.args.limits.nesting c.args.limits.layers) _ _ _ _ _ _ _ _ _ _ w3.1 c.in_ok-signature.ensures.ok in
     rw (p.1, p.2) (close_tells (plain c.args.limits.nesting c.args.limits.layers) c.args.limits.least_nesting g.R.Read.ends _ _ _ _ _ _ _ _ _ w4 ((protected_view c.in_ok-protected.protected, a.2), (header_view c.in_ok-unprotected.unprotected, b.2), (refl, (refl, tt))) refl c.in_err-close.ensures.open c.in_err-close.ensures.err)
@@ -94,17 +94,17 @@ returns-clause-ok g c =
     let w0 = within_start (plain c.args.limits.nesting c.args.limits.layers) _ _ _ _ _ _ _ _ c.in_ok-form.ensures.ok c.in_ok-count.ensures.ok c.in_ok-count.ensures.is in
     let w1 = within_more (plain c.args.limits.nesting c.args.limits.layers) _ _ _ _ _ _ _ _ _ _ w0 a.1 in
     let w2 = within_more (plain c.args.limits.nesting c.args.limits.layers) _ _ _ _ _ _ _ _ _ _ w1 b.1 in
-    let paying = paid (plain c.args.limits.nesting c.args.limits.layers) _ _ _ _ _ _ _ _ _ _ _ _ _ _ w2 c.in_ok-size.ensures.ok c.in_ok-feed_payload.ensures.ok in
-    let who = c.in_ok-feed_payload.ensures.who ∙ c.in_ok-feed_front.ensures.who ∙ c.in_ok-begin.ensures.who in
-    let told = c.in_ok-feed_payload.ensures.told ∙ c.in_ok-feed_front.ensures.told ∙ c.in_ok-begin.ensures.told in
+    let paying = paid (plain c.args.limits.nesting c.args.limits.layers) _ _ _ _ _ _ _ _ _ _ _ _ _ _ w2 c.in_ok-size.ensures.ok c.in_ok-written.ensures.ok in
+    let who = c.in_ok-written.ensures.who ∙ c.in_ok-feed_front.ensures.who ∙ c.in_ok-begin.ensures.who in
+    let told = c.in_ok-written.ensures.told ∙ c.in_ok-feed_front.ensures.told ∙ c.in_ok-begin.ensures.told in
     let front = c.in_ok-feed_front.ensures.ok in
     let about = subject_is c.alone-about.result _ _ _ (c.alone-about.ensures.kind ∙ c.kind.ensures) c.alone-about.ensures.protected c.alone-about.ensures.unprotected c.alone-about.ensures.signer c.alone-about.ensures.recipients in
-    checked (plain c.args.limits.nesting c.args.limits.layers) c.args.limits.least_nesting g.J.Judge.decided (g.J.Judge.yes (g.J.Judge.who c.args.judge.now)) c.args.aad.now _ _ _ _ _ _ _ _ _ _ _ _ _ _ _ _ _ _ _ _ _ _ _ a.2 b.2 (received_is (protected_view c.in_ok-protected.protected) _ c.in_ok-protected.ensures.received c.received.ensures) (in_pieces _ _ _ _ _ c.in_ok-feed_payload.ensures.pieces c.decide.ensures.pieces)
+    checked (plain c.args.limits.nesting c.args.limits.layers) c.args.limits.least_nesting g.J.Judge.decided (g.J.Judge.yes (g.J.Judge.who c.args.judge.now)) c.args.aad.now _ _ _ _ _ _ _ _ _ _ _ _ _ _ _ _ _ _ _ _ _ _ _ _ a.2 b.2 (received_is (protected_view c.in_ok-protected.protected) _ c.in_ok-protected.ensures.received c.received.ensures) (in_pieces _ _ _ _ _ c.in_ok-written.ensures.pieces c.decide-yes.ensures.pieces)
     (λ payload len held.
     let h = held _ front.0 (front.1 _ c.in_ok-begin.ensures.holds) in
     let q = question_is _ _ _ _ _ _ about (sym (front.2 payload len)) c.deref.ensures.value in (
-      asked_as g.J.Judge.yes _ _ _ _ _ (c.decide.ensures.answer _ _ h) who q,
-      asked_as g.J.Judge.decided _ _ _ _ _ (c.decide.ensures.told _ _ h) told q,
+      asked_as g.J.Judge.yes _ _ _ _ _ (c.decide-yes.ensures.answer _ _ h) who q,
+      asked_as g.J.Judge.decided _ _ _ _ _ (c.decide-yes.ensures.told _ _ h) told q,
     ))
     paying c.in_ok-signature.ensures.ok c.in_ok-close.ensures.ok
 

@@ -1,0 +1,114 @@
+-- How the check of one message ends.
+use Rattle.std.specs.Prelude.{◌≡◌, ◌≢◌, ℕ, ◌+◌, ◌^◌, ◌≤◌, List, [], ◌∷◌, ◌++◌, length, Option, Some, Bool, true, false, IsTrue, Result, Ok, Err, is_none}
+use Rattle.std.specs.Io.KnownBytes.{Appends}
+use Rattle.ciborium_ll.specs.declared.read.Read.{Ghosts as Reading}
+use Rattle.ciborium_ll.specs.declared.write.Write.{Ghosts as Writing}
+use Rattle.cose_gate.specs.Asked.{first_no}
+use Rattle.cose_gate.specs.Beginning.{BeginsNot, aad_of}
+use Rattle.cose_gate.specs.Faults.{CoseFault}
+use Rattle.cose_gate.specs.Findings.{usual, IsJudged}
+use Rattle.cose_gate.specs.Front.{Reads}
+use Rattle.cose_gate.specs.HmacJudges.{says_yes}
+use Rattle.cose_gate.specs.KeyFields.{KeyFields}
+use Rattle.cose_gate.specs.Keys.{HasKeySet}
+use Rattle.cose_gate.specs.Questions.{Question, MessageFields, questions, payload_of}
+use Rattle.cose_gate.specs.ReadError.TheVariants as de
+use Rattle.cose_gate.specs.Reading.{IfKnown}
+use Rattle.cose_gate.specs.Stated.{IsSingle, Stated}
+use Rattle.cose_gate.specs.Streaming.{Tells, IsLongFor, Unstreamed, Why, untagged, tagged, shape, without_payload, without_length}
+use Rattle.cose_gate.specs.Tree.{Tree}
+use Rattle.cose_gate.specs.declared.fault.StreamFault.{StreamFault}
+use Rattle.cose_gate.specs.declared.fault.StreamFault.TheVariants as fault
+use Rattle.cose_gate.specs.GateFault.TheVariants as gating
+use Rattle.cose_gate_program.specs.declared.devices.InputFault.{InputFault}
+use Rattle.coset_labels.specs.Reading.{HasItem}
+use Rattle.cose_stream.specs.declared.stop.StreamRefusal.{StreamRefusal}
+use Rattle.cose_stream.specs.declared.stop.StreamRefusal.TheVariants as refusal
+use Rattle.cose_stream.specs.declared.stop.StreamStop.{StreamStop}
+use Rattle.cose_stream.specs.declared.stop.StreamStop.TheVariants as stop
+
+-- why no message was checked, as the streaming check has it
+abbrev pub stopped_by : StreamFault InputFault → StreamStop
+stopped_by (fault.Decode e) = stop.Stopped (gating.Decode e)
+stopped_by fault.Memory = stop.Stopped gating.Memory
+stopped_by fault.NotTagged = stop.Refused refusal.NotTagged
+stopped_by (fault.OtherTag n) = stop.Refused refusal.OtherTag
+stopped_by (fault.Shape e) = stop.Refused refusal.Shape
+stopped_by fault.Detached = stop.Refused refusal.Detached
+stopped_by fault.Unsized = stop.Refused refusal.Unsized
+
+-- the bytes are one message that states its payload's length in front, this is its payload, and
+-- this the answer to its question
+pub record IsAnswered (allows : Question → Bool) (aad : List ℕ) (yes : Bool) (payload b : List ℕ)
+    : Type 0 where
+  pub item : Tree
+  pub message : MessageFields
+  pub size : ℕ
+  pub reads : Reads b usual.nesting item
+  pub is : IsJudged usual item message
+  pub single : IsSingle message
+  pub stated : Stated b size
+  pub is_payload : payload_of message ≡ Some payload
+  pub answer : yes ≡ is_none (first_no allows (questions message aad))
+
+-- the bytes begin with such a message, and Q holds of what is after it
+abbrev pub Begins : (Question → Bool) → List ℕ → Bool → Option (List ℕ) → (List ℕ → Type 0)
+    → Type 0
+Begins allows aad yes left Q =
+    (payload front : List ℕ) × IsAnswered allows aad yes payload front
+    × IfKnown left (λ b. (rest : List ℕ) × (b ≡ front ++ rest) × Q rest)
+
+-- why the bytes are refused that are no such message
+abbrev pub IsWhy : StreamRefusal → Why → Type 0
+IsWhy refusal.NotTagged why = why ≡ untagged
+IsWhy refusal.OtherTag why = (n : ℕ) × (why ≡ tagged n)
+IsWhy refusal.Shape why = (e : CoseFault) × (why ≡ shape e)
+IsWhy refusal.Detached why = why ≡ without_payload
+IsWhy refusal.Unsized why = why ≡ without_length
+IsWhy refusal.Judged why = ⊥
+IsWhy refusal.ExtraneousData why = ⊥
+
+abbrev pub IsRefused : (Question → Bool) → List ℕ → Option (List ℕ) → StreamRefusal → Type 0
+IsRefused allows aad left refusal.Judged = Begins allows aad false left (λ rest. Unit {0})
+IsRefused allows aad left refusal.ExtraneousData = Begins allows aad true left (λ rest. rest ≢ [])
+IsRefused allows aad left why =
+    IfKnown left (λ b. (w : Why) × IsWhy why w × Unstreamed (length b) b w)
+
+-- how the check ends by this judge and external data: the whole input is such a message, the answer
+-- is yes, and its payload was written; or what is said of the input is true
+abbrev pub Ended : {W F : Type 0} → (Question → Bool) → List ℕ → (InputFault → Bool)
+    → Option (List ℕ) → Writing W F → W → W → Result (Unit {0}) StreamStop → Type 0
+Ended allows aad ends left w out out' (Ok u) =
+    (payload front : List ℕ) × IsAnswered allows aad true payload front
+    × IfKnown left (λ b. b ≡ front)
+    × (w.failed out' ≡ w.failed out) × Appends (w.written out) (w.written out') payload
+Ended allows aad ends left w out out' (Err (stop.NotBegun why)) = ⊥
+Ended allows aad ends left w out out' (Err (stop.Refused why)) = IsRefused allows aad left why
+Ended allows aad ends left w out out' (Err (stop.Stopped (gating.Decode e))) =
+    IfKnown left (λ b. Tells ends (Unstreamed (length b) b) (IsLongFor 4096 0 b) (fault.Decode e))
+Ended allows aad ends left w out out' (Err (stop.Stopped gating.Write)) =
+    w.failed out' ≡ w.failed out + 1
+Ended allows aad ends left w out out' (Err (stop.Stopped gating.Memory)) = Unit {0}
+
+-- the same by what KEYS holds, if it can be read, and AADHEX; or the check doesn't begin, and
+-- nothing was read or written
+pub data Streams {R W F : Type 0} (r : Reading R InputFault) (w : Writing W F)
+    (keys aad : Option (List ℕ)) (old new : R) (out out' : W)
+    (result : Result (Unit {0}) StreamStop) : Type 0 where
+  not_begun : (why : _) → BeginsNot keys (aad_of aad) why → result ≡ Err (stop.NotBegun why)
+      → new ≡ old → out' ≡ out → Streams r w keys aad old new out out' result
+  begun : (bytes d : List ℕ) (ks : List KeyFields) → keys ≡ Some bytes
+      → HasItem HasKeySet bytes ks → aad_of aad ≡ Some d
+      → Ended (says_yes ks) d r.ends (r.left old) w out out' result
+      → Streams r w keys aad old new out out' result
+
+-- whether these are no bytes
+abbrev pub IsEnd : Option (List ℕ) → Bool → Type 0
+IsEnd left true = IfKnown left (λ b. b ≡ [])
+IsEnd left false = IfKnown left (λ b. b ≢ [])
+
+-- the input failed, or offsets grow too long
+abbrev pub IsNoEnd : (InputFault → Bool) → ℕ → StreamStop → Type 0
+IsNoEnd ends at (stop.Stopped (gating.Decode (de.Io e))) = IsTrue (ends e) → ⊥
+IsNoEnd ends at (stop.Stopped (gating.Decode de.TooLong)) = 2 ^ 64 ≤ at + 1
+IsNoEnd ends at other = ⊥

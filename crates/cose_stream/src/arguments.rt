@@ -1,0 +1,49 @@
+//! The arguments.
+ghost use Rattle.std.specs.Prelude.{◌≡◌, map, option_copied, option_map, string_bytes};
+ghost use Rattle.cose_stream.specs.Arguments as spec;
+ghost use Rattle.cose_stream.specs.Arguments.{stream_view};
+
+use cose_gate_command::read_arguments;
+
+/// The line for other arguments.
+pub const STREAM_USAGE: &str =
+    "usage: cose-gate --stream [--payload FILE] KEYS [AADHEX] < MESSAGE\n";
+
+/// What the arguments ask for.
+#[derive(Debug, Clone, Copy, PartialEq, Eq)]
+pub struct StreamArguments<'a> {
+    /// The file that the payload goes to; none if it is only checked.
+    pub payload: Option<&'a str>,
+    /// The name of the file with the key set.
+    pub keys: &'a str,
+    /// The external data in hex.
+    pub aad: Option<&'a str>,
+}
+
+/// The arguments after `--stream`: `[--payload FILE] KEYS [AADHEX]`; `None` if they are others.
+pub fn stream_arguments(words: &[String]) -> Option<StreamArguments<'_>>
+    ensures { option_map stream_view result ≡ spec.stream_arguments (map string_bytes words.now) }
+{
+    match words {
+        [option, file, rest @ ..] if option.as_str() == "--payload" => {
+            with_payload(Some(file.as_str()), rest)
+        }
+        _ => with_payload(None, words),
+    }
+}
+
+/// With this file, the arguments `KEYS [AADHEX]`.
+fn with_payload<'a>(payload: Option<&'a str>, words: &'a [String]) -> Option<StreamArguments<'a>>
+    ensures { option_map stream_view result
+        ≡ spec.with_payload (option_copied payload.entry) (map string_bytes words.now) }
+{
+    let asked = read_arguments(words)?;
+    if asked.strict || asked.verbose || asked.quiet {
+        return None;
+    }
+    Some(StreamArguments {
+        payload,
+        keys: asked.keys,
+        aad: asked.aad,
+    })
+}

@@ -1,0 +1,100 @@
+//! The check of one message.
+ghost use Rattle.std.specs.Prelude.{◌≡◌, None, option_copied};
+ghost use Rattle.std.specs.Prelude.{IfErr, IfOk};
+ghost use Rattle.ciborium_ll.specs.Views.{left_of, offset_of, waiting_of};
+ghost use Rattle.cose_gate.specs.HmacJudges.{says_yes};
+ghost use Rattle.cose_gate.specs.KeyView.{key_set_view};
+ghost use Rattle.cose_gate.specs.GateFault.TheVariants as gating;
+ghost use Rattle.cose_stream.specs.Streams.{Ended, IsEnd, IsNoEnd, Streams};
+ghost use Rattle.cose_stream.specs.declared.stop.StreamStop.TheVariants as stop;
+
+use crate::stop::{StreamRefusal, StreamStop};
+use ciborium_ll::{Decoder, Error, Read, Write};
+use cose_gate::{GateFault, HmacJudge, InputFault, Limits, de, stream_check_into};
+use cose_gate_program::{Beginning, begin};
+use std::alloc::Global;
+
+/// The payload is read so many bytes at a time.
+const PIECE: usize = 4096;
+
+/// Checks with the keys that KEYS holds and AADHEX as external data that the input is one COSE_Mac0
+/// that states its payload's length, whose MAC is good, as `HmacJudge` says, and writes its payload
+/// to `out` as it comes, and flushes it. What was written may be used only if the result is `Ok`.
+///
+/// # Errors
+/// `NotBegun`, and then nothing was read. Else the first fault: `Refused` or `Stopped` as
+/// `stream_check` has it; `Stopped` if the payload can't be written; `Judged`; `ExtraneousData` if
+/// the input goes on.
+pub fn stream<R: Read<Error = InputFault>, W: Write>(
+    alloc: Global,
+    keys: Option<&[u8]>,
+    aad: Option<&str>,
+    input: &mut R,
+    out: &mut W,
+) -> Result<(), StreamStop>
+    ensures { Streams R.Read W.Write (option_copied keys.entry) (option_copied aad.entry)
+        input.old input.new out.old out.new result }
+{
+    let beginning = begin(alloc, keys, aad)?;
+    check(alloc, &beginning, input, out)
+}
+
+/// Checks the message with these keys.
+fn check<R: Read<Error = InputFault>, W: Write>(
+    alloc: Global,
+    beginning: &Beginning,
+    input: &mut R,
+    out: &mut W,
+) -> Result<(), StreamStop>
+    ensures { Ended (says_yes (key_set_view beginning.now.keys)) beginning.now.aad.items R.ends
+        (R.left input.old) W.Write out.old out.new result }
+{
+    let mut judge = HmacJudge::new(&beginning.keys);
+    let mut decoder = Decoder::from(input);
+    let mut buffer = [0; PIECE];
+    let aad = beginning.aad.as_slice();
+    let limits = Limits::default();
+    let streamed = stream_check_into(
+        alloc,
+        limits,
+        &mut decoder,
+        &mut buffer,
+        aad,
+        &mut judge,
+        out,
+    )?;
+    if streamed.written.is_err() {
+        return Err(StreamStop::Stopped(GateFault::Write));
+    }
+    if !streamed.yes {
+        return Err(StreamStop::Refused(StreamRefusal::Judged));
+    }
+    if !has_ended(&mut decoder)? {
+        return Err(StreamStop::Refused(StreamRefusal::ExtraneousData));
+    }
+    match out.flush() {
+        Ok(()) => Ok(()),
+        Err(_) => Err(StreamStop::Stopped(GateFault::Write)),
+    }
+}
+
+/// Whether nothing is to come. If there is something, a byte of it is taken.
+fn has_ended<R: Read<Error = InputFault>>(decoder: &mut Decoder<R>) -> Result<bool, StreamStop>
+    requires { waiting_of decoder.old ≡ None }
+    ensures ok { IfOk result (IsEnd (left_of R.left decoder.old)) }
+    ensures err { IfErr result (IsNoEnd R.ends (offset_of decoder.old)) }
+{
+    match decoder.read_exact(&mut [0]) {
+        Ok(()) => Ok(false),
+        Err(Error::Io(fault)) if R::is_end(&fault) => Ok(true),
+        Err(Error::Io(fault)) => Err(stopped(de::Error::Io(fault))),
+        Err(_) => Err(stopped(de::Error::TooLong)),
+    }
+}
+
+/// The input can't be read on.
+fn stopped(error: de::Error<InputFault>) -> StreamStop
+    ensures { result ≡ stop.Stopped (gating.Decode error) }
+{
+    StreamStop::Stopped(GateFault::Decode(error))
+}
