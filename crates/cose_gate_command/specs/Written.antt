@@ -87,10 +87,10 @@ IsWrittenSince-prop w [] new written text = Unit-prop
 IsWrittenSince-prop w (old ∷ more) new written text =
     ×_prop (Coded-set (coded_list coded_ℕ) _ _) (HasText-prop w old new written text)
 
-pub AreOut-prop : {W F : Type 0} (w : Writes W F) {form : Form} {first : Log W} {new : W}
-    {written : Result (Unit {0}) NotRun} {told : Log Parts}
+pub AreOut-prop : {W F : Type 0} (w : Writes W F) (form : Form) (first : Log W) (new : W)
+    (written : Result (Unit {0}) NotRun) (told : Log Parts)
     → IsProp (AreOut w form first new written told)
-AreOut-prop w {form} {first} {new} {written} =
+AreOut-prop w form first new written told =
     Π_prop (λ qs. →_prop
     (IsWrittenSince-prop w first.items new written (flat_map (told_as form) qs)))
 

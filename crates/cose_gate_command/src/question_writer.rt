@@ -49,7 +49,7 @@ pub(crate) struct QuestionWriter<'a, W: Write> {
     /// What was told of the questions, and what the writer was at first. It is in contracts alone.
     told: &'a mut Log<Parts>,
     was: Log<W>,
-    ghost sent: { AreOut W.Write form was out.now written told.now } by { AreOut-prop W.Write },
+    ghost sent: { AreOut W.Write form was out.now written told.now } by { AreOut-prop W.Write _ _ _ _ _ },
 }
 
 impl<'a, W: Write> QuestionWriter<'a, W> {
