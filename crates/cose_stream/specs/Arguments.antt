@@ -25,10 +25,12 @@ if_plain payload a =
 abbrev pub with_payload : Option (List ℕ) → List (List ℕ) → Option StreamArguments
 with_payload payload ws = option_and_then (if_plain payload) (arguments ws)
 
--- --payload comes first, if it is there
+-- --payload comes first, if it is there, and then FILE
+abbrev pub with_file : List (List ℕ) → Option StreamArguments
+with_file [] = None
+with_file (file ∷ ws) = with_payload (Some file) ws
+
 abbrev pub stream_arguments : List (List ℕ) → Option StreamArguments
-stream_arguments [] = with_payload None []
-stream_arguments (w ∷ []) = with_payload None (w ∷ [])
-stream_arguments (w ∷ file ∷ ws) =
-    if bytes_eq w (codes "--payload") then with_payload (Some file) ws
-    else with_payload None (w ∷ file ∷ ws)
+stream_arguments [] = None
+stream_arguments (w ∷ ws) =
+    if bytes_eq w (codes "--payload") then with_file ws else with_payload None (w ∷ ws)

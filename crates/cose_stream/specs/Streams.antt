@@ -1,5 +1,5 @@
 -- How the check of one message ends.
-use Rattle.std.specs.Prelude.{◌≡◌, ◌≢◌, ℕ, ◌+◌, ◌^◌, ◌≤◌, List, [], ◌∷◌, ◌++◌, length, Option, Some, Bool, true, false, IsTrue, Result, Ok, Err, is_none}
+use Rattle.std.specs.Prelude.{◌≡◌, ◌≢◌, ℕ, ◌+◌, ◌^◌, ◌≤◌, List, [], ◌++◌, length, Option, Some, Bool, true, false, IsTrue, Result, Ok, Err, is_none}
 use Rattle.std.specs.Io.KnownBytes.{Appends}
 use Rattle.ciborium_ll.specs.declared.read.Read.{Ghosts as Reading}
 use Rattle.ciborium_ll.specs.declared.write.Write.{Ghosts as Writing}
@@ -39,8 +39,8 @@ stopped_by fault.Unsized = stop.Refused refusal.Unsized
 
 -- the bytes are one message that states its payload's length in front, this is its payload, and
 -- this the answer to its question
-pub record IsAnswered (allows : Question → Bool) (aad : List ℕ) (yes : Bool) (payload b : List ℕ)
-    : Type 0 where
+pub record IsAnswered (allows : Question → Bool) (aad : List ℕ) (answer : Bool)
+    (payload b : List ℕ) : Type 0 where
   pub item : Tree
   pub message : MessageFields
   pub size : ℕ
@@ -49,13 +49,13 @@ pub record IsAnswered (allows : Question → Bool) (aad : List ℕ) (yes : Bool)
   pub single : IsSingle message
   pub stated : Stated b size
   pub is_payload : payload_of message ≡ Some payload
-  pub answer : yes ≡ is_none (first_no allows (questions message aad))
+  pub is_answer : answer ≡ is_none (first_no allows (questions message aad))
 
 -- the bytes begin with such a message, and Q holds of what is after it
 abbrev pub Begins : (Question → Bool) → List ℕ → Bool → Option (List ℕ) → (List ℕ → Type 0)
     → Type 0
-Begins allows aad yes left Q =
-    (payload front : List ℕ) × IsAnswered allows aad yes payload front
+Begins allows aad answer left Q =
+    (payload front : List ℕ) × IsAnswered allows aad answer payload front
     × IfKnown left (λ b. (rest : List ℕ) × (b ≡ front ++ rest) × Q rest)
 
 -- why the bytes are refused that are no such message

@@ -24,12 +24,12 @@ pub struct StreamArguments<'a> {
 pub fn stream_arguments(words: &[String]) -> Option<StreamArguments<'_>>
     ensures { option_map stream_view result ≡ spec.stream_arguments (map string_bytes words.now) }
 {
-    match words {
-        [option, file, rest @ ..] if option.as_str() == "--payload" => {
-            with_payload(Some(file.as_str()), rest)
-        }
-        _ => with_payload(None, words),
+    let (first, rest) = words.split_first()?;
+    if first.as_str() != "--payload" {
+        return with_payload(None, words);
     }
+    let (file, rest) = rest.split_first()?;
+    with_payload(Some(file.as_str()), rest)
 }
 
 /// With this file, the arguments `KEYS [AADHEX]`.

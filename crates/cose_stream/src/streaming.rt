@@ -4,9 +4,7 @@ ghost use Rattle.std.specs.Prelude.{IfErr, IfOk};
 ghost use Rattle.ciborium_ll.specs.Views.{left_of, offset_of, waiting_of};
 ghost use Rattle.cose_gate.specs.HmacJudges.{says_yes};
 ghost use Rattle.cose_gate.specs.KeyView.{key_set_view};
-ghost use Rattle.cose_gate.specs.GateFault.TheVariants as gating;
 ghost use Rattle.cose_stream.specs.Streams.{Ended, IsEnd, IsNoEnd, Streams};
-ghost use Rattle.cose_stream.specs.declared.stop.StreamStop.TheVariants as stop;
 
 use crate::stop::{StreamRefusal, StreamStop};
 use ciborium_ll::{Decoder, Error, Read, Write};
@@ -87,14 +85,7 @@ fn has_ended<R: Read<Error = InputFault>>(decoder: &mut Decoder<R>) -> Result<bo
     match decoder.read_exact(&mut [0]) {
         Ok(()) => Ok(false),
         Err(Error::Io(fault)) if R::is_end(&fault) => Ok(true),
-        Err(Error::Io(fault)) => Err(stopped(de::Error::Io(fault))),
-        Err(_) => Err(stopped(de::Error::TooLong)),
+        Err(Error::Io(fault)) => Err(StreamStop::Stopped(GateFault::Decode(de::Error::Io(fault)))),
+        Err(_) => Err(StreamStop::Stopped(GateFault::Decode(de::Error::TooLong))),
     }
-}
-
-/// The input can't be read on.
-fn stopped(error: de::Error<InputFault>) -> StreamStop
-    ensures { result ≡ stop.Stopped (gating.Decode error) }
-{
-    StreamStop::Stopped(GateFault::Decode(error))
 }
