@@ -1,5 +1,5 @@
 -- How the check of one message ends.
-use Rattle.std.specs.Prelude.{◌≡◌, ◌≢◌, ℕ, ◌+◌, ◌^◌, ◌≤◌, List, [], ◌++◌, length, Option, Some, Bool, true, false, IsTrue, Result, Ok, Err, is_none}
+use Rattle.std.specs.Prelude.{◌≡◌, ◌≢◌, ℕ, ◌+◌, ◌^◌, ◌≤◌, List, [], ◌++◌, length, Option, Some, Bool, true, false, IsTrue, Result, Ok, Err, is_none, if◌then◌else◌}
 use Rattle.std.specs.Io.KnownBytes.{Appends}
 use Rattle.ciborium_ll.specs.declared.read.Read.{Ghosts as Reading}
 use Rattle.ciborium_ll.specs.declared.write.Write.{Ghosts as Writing}
@@ -90,6 +90,11 @@ Ended allows aad ends left w out out' (Err (stop.Stopped gating.Write)) =
     w.failed out' ≡ w.failed out + 1
 Ended allows aad ends left w out out' (Err (stop.Stopped gating.Memory)) = Unit {0}
 
+-- how often the input has failed after this end, if it had so often before
+abbrev pub failures_after : (InputFault → Bool) → Result (Unit {0}) StreamStop → ℕ → ℕ
+failures_after ends (Err (stop.Stopped (gating.Decode (de.Io e)))) n = if ends e then n else n + 1
+failures_after ends other n = n
+
 -- the same by what KEYS holds, if it can be read, and AADHEX; or the check doesn't begin, and
 -- nothing was read or written
 pub data Streams {R W F : Type 0} (r : Reading R InputFault) (w : Writing W F)
@@ -100,6 +105,7 @@ pub data Streams {R W F : Type 0} (r : Reading R InputFault) (w : Writing W F)
   begun : (bytes d : List ℕ) (ks : List KeyFields) → keys ≡ Some bytes
       → HasItem HasKeySet bytes ks → aad_of aad ≡ Some d
       → Ended (says_yes ks) d r.ends (r.left old) w out out' result
+      → r.failed new ≡ failures_after r.ends result (r.failed old)
       → Streams r w keys aad old new out out' result
 
 -- whether these are no bytes

@@ -1,10 +1,10 @@
 //! The check of one message.
 ghost use Rattle.std.specs.Prelude.{◌≡◌, None, option_copied};
-ghost use Rattle.std.specs.Prelude.{IfErr, IfOk};
-ghost use Rattle.ciborium_ll.specs.Views.{left_of, offset_of, waiting_of};
+ghost use Rattle.std.specs.Prelude.{Err, IfErr, IfOk, OnOk};
+ghost use Rattle.ciborium_ll.specs.Views.{left_of, offset_of, reader_of, waiting_of};
 ghost use Rattle.cose_gate.specs.HmacJudges.{says_yes};
 ghost use Rattle.cose_gate.specs.KeyView.{key_set_view};
-ghost use Rattle.cose_stream.specs.Streams.{Ended, IsEnd, IsNoEnd, Streams};
+ghost use Rattle.cose_stream.specs.Streams.{Ended, IsEnd, IsNoEnd, Streams, failures_after};
 
 use crate::stop::{StreamRefusal, StreamStop};
 use ciborium_ll::{Decoder, Error, Read, Write};
@@ -30,8 +30,10 @@ pub fn stream<R: Read<Error = InputFault>, W: Write>(
     input: &mut R,
     out: &mut W,
 ) -> Result<(), StreamStop>
-    ensures { Streams R.Read W.Write (option_copied keys.entry) (option_copied aad.entry)
+    ensures ran { Streams R.Read W.Write (option_copied keys.entry) (option_copied aad.entry)
         input.old input.new out.old out.new result }
+    ensures kept { R.handle input.new ≡ R.handle input.old }
+    ensures lent { W.handle out.new ≡ W.handle out.old }
 {
     let beginning = begin(alloc, keys, aad)?;
     check(alloc, &beginning, input, out)
@@ -44,8 +46,11 @@ fn check<R: Read<Error = InputFault>, W: Write>(
     input: &mut R,
     out: &mut W,
 ) -> Result<(), StreamStop>
-    ensures { Ended (says_yes (key_set_view beginning.now.keys)) beginning.now.aad.items R.ends
-        (R.left input.old) W.Write out.old out.new result }
+    ensures ended { Ended (says_yes (key_set_view beginning.now.keys)) beginning.now.aad.items
+        R.ends (R.left input.old) W.Write out.old out.new result }
+    ensures failed { R.failed input.new ≡ failures_after R.ends result (R.failed input.old) }
+    ensures kept { R.handle input.new ≡ R.handle input.old }
+    ensures lent { W.handle out.new ≡ W.handle out.old }
 {
     let mut judge = HmacJudge::new(&beginning.keys);
     let mut decoder = Decoder::from(input);
@@ -81,6 +86,11 @@ fn has_ended<R: Read<Error = InputFault>>(decoder: &mut Decoder<R>) -> Result<bo
     requires { waiting_of decoder.old ≡ None }
     ensures ok { IfOk result (IsEnd (left_of R.left decoder.old)) }
     ensures err { IfErr result (IsNoEnd R.ends (offset_of decoder.old)) }
+    ensures kept { R.handle (reader_of decoder.new) ≡ R.handle (reader_of decoder.old) }
+    ensures going { OnOk result (R.failed (reader_of decoder.new)
+        ≡ R.failed (reader_of decoder.old)) }
+    ensures failed { IfErr result (λ why. R.failed (reader_of decoder.new)
+        ≡ failures_after R.ends (Err why) (R.failed (reader_of decoder.old))) }
 {
     match decoder.read_exact(&mut [0]) {
         Ok(()) => Ok(false),
