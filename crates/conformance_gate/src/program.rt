@@ -172,13 +172,16 @@ fn streamed<W: Write>(to: &mut Out, row: &mut &str, out: &mut W) -> Option<(u8, 
     let mut err = shown_writer(to);
     let end = stream(to.alloc(), keys.as_deref(), asked.aad, &mut reader, out);
     let status = end_status(&end);
-    let file = KeyFile {
-        name: asked.keys,
-        bytes: keys.as_deref(),
-        fault: "no such file",
-    };
-    tell_end(end, file, &mut err);
+    tell_end(end, key_file(asked.keys, keys.as_deref()), &mut err);
     Some((status, err))
+}
+
+fn key_file<'a>(name: &'a str, bytes: Option<&'a [u8]>) -> KeyFile<'a> {
+    KeyFile {
+        name,
+        bytes,
+        fault: "no such file",
+    }
 }
 
 /// Appends how a program ended, with the line of why it didn't run.

@@ -3,39 +3,57 @@ use crate::front;
 use cose_gate::{Blocks, GateFault, Nowhere};
 use cose_gate_command::{Content, KeyFile, NotRun, ended, read_in_blocks, write_in_blocks};
 use cose_gate_program::OutBlocks;
-use cose_stream::{STREAM_USAGE, StreamStop, end_status, stream, stream_arguments, tell_end};
+use cose_stream::{
+    STREAM_USAGE, StreamArguments, StreamStop, end_status, stream, stream_arguments, tell_end,
+};
 use std::alloc::Global;
 use std::{fs, io};
 
 /// Checks the message on standard input, and returns the status.
 pub fn start_stream(rt: &HostRuntime, words: &[String]) -> Result<u8, NotRun> {
-    let Some(asked) = stream_arguments(words) else {
-        return Ok(ended(Err(NotRun::Usage), STREAM_USAGE, &mut rt.stderr()));
-    };
+    match stream_arguments(words) {
+        Some(asked) => check(rt, asked),
+        None => Ok(ended(Err(NotRun::Usage), STREAM_USAGE, &mut rt.stderr())),
+    }
+}
+
+/// The check that the arguments ask for.
+fn check(rt: &HostRuntime, asked: StreamArguments<'_>) -> Result<u8, NotRun> {
     let alloc = rt.alloc();
     let keys = Content::of_file(fs::read(rt, asked.keys))?;
-    let file = KeyFile {
-        name: asked.keys,
-        bytes: keys.bytes.as_deref(),
-        fault: keys.fault,
-    };
-    let mut input = Blocks::new(read_in_blocks(alloc, rt.stdin())?);
+    let input = read_in_blocks(alloc, rt.stdin())?;
     let mut lines = write_in_blocks(alloc, rt.stderr())?;
-    let mut err = OutBlocks::new(front(alloc)?, &mut lines);
-    let end = match asked.payload {
-        Some(name) => stream_to(rt, name, file.bytes, asked.aad, &mut input)?,
-        None => stream(alloc, file.bytes, asked.aad, &mut input, &mut Nowhere),
-    };
+    let front = front(alloc)?;
+    let file = key_file(asked.keys, keys.bytes.as_deref(), keys.fault);
+    let end = check_input(rt, asked, file.bytes, &mut Blocks::new(input))?;
     let status = end_status(&end);
-    tell_end(end, file, &mut err);
+    tell_end(end, file, &mut OutBlocks::new(front, &mut lines));
     // What a flush that failed has left isn't written as the program ends.
     let _ = lines.into_parts();
     Ok(status)
 }
 
-/// The check, whose payload is in the file of this name after a yes. Up to then it is in one whose
+/// The file KEYS.
+fn key_file<'a>(name: &'a str, bytes: Option<&'a [u8]>, fault: &'a str) -> KeyFile<'a> {
+    KeyFile { name, bytes, fault }
+}
+
+/// The check of this input under the keys that these bytes are.
+fn check_input<R: io::Read>(
+    rt: &HostRuntime,
+    asked: StreamArguments<'_>,
+    keys: Option<&[u8]>,
+    input: &mut Blocks<R>,
+) -> Result<Result<(), StreamStop>, NotRun> {
+    match asked.payload {
+        Some(name) => check_into(rt, name, keys, asked.aad, input),
+        None => Ok(stream(rt.alloc(), keys, asked.aad, input, &mut Nowhere)),
+    }
+}
+
+/// The same, whose payload is in the file of this name after a yes. Up to then it is in one whose
 /// name has `.part` after it.
-fn stream_to<R: io::Read>(
+fn check_into<R: io::Read>(
     rt: &HostRuntime,
     name: &str,
     keys: Option<&[u8]>,
@@ -52,19 +70,15 @@ fn stream_to<R: io::Read>(
         let _ = fs::remove_file(rt, part.as_str());
         return Err(NotRun::Memory);
     };
-    let mut out = OutBlocks::new(front, &mut blocks);
-    let end = stream(alloc, keys, aad, input, &mut out);
+    let end = stream(
+        alloc,
+        keys,
+        aad,
+        input,
+        &mut OutBlocks::new(front, &mut blocks),
+    );
     let (file, _) = blocks.into_parts();
-    let end = match end {
-        Ok(()) if keep(rt, &file, part.as_str(), name).is_err() => {
-            Err(StreamStop::Stopped(GateFault::Write))
-        }
-        end => end,
-    };
-    if end.is_err() {
-        let _ = fs::remove_file(rt, part.as_str());
-    }
-    Ok(end)
+    Ok(keep(rt, end, &file, part.as_str(), name))
 }
 
 /// The name of the file that a payload is in before its message was checked.
@@ -77,8 +91,27 @@ fn part_of(alloc: Global, name: &str) -> Result<String, NotRun> {
     }
 }
 
+/// Puts the file `part` into the place of `name` after a yes, and else removes it.
+fn keep(
+    rt: &HostRuntime,
+    end: Result<(), StreamStop>,
+    file: &fs::File,
+    part: &str,
+    name: &str,
+) -> Result<(), StreamStop> {
+    let why = match end {
+        Ok(()) => match put(rt, file, part, name) {
+            Ok(()) => return Ok(()),
+            Err(_) => StreamStop::Stopped(GateFault::Write),
+        },
+        Err(why) => why,
+    };
+    let _ = fs::remove_file(rt, part);
+    Err(why)
+}
+
 /// Puts the file into its place, once its bytes are on the disk.
-fn keep(rt: &HostRuntime, file: &fs::File, part: &str, name: &str) -> io::Result<()> {
+fn put(rt: &HostRuntime, file: &fs::File, part: &str, name: &str) -> io::Result<()> {
     file.sync_all()?;
     fs::rename(rt, part, name)
 }
