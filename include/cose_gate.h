@@ -1,15 +1,16 @@
 /* cose_gate.h: the gate of COSE messages over memory (RFC 9052, RFC 8949). The library is out/libcose_gate_c.a of crates/cose_gate_c,
  * linked together with the kit's liblibc_c.a, which calls malloc, realloc and free. docs/LIBRARY.md.
  *
- * Buffers: all belong to the caller. A pointer is never NULL, not even with the length 0. `out`, `questions` and `lines` overlap nothing else
- *   that is passed in the same call; inputs may overlap. No length is above PTRDIFF_MAX. Nothing is kept after a call.
+ * Buffers: all belong to the caller. A pointer is never NULL, not even with the length 0. `out`, `question`, `questions` and `lines` overlap
+ *   nothing else that is passed in the same call; inputs may overlap. No length is above PTRDIFF_MAX. Nothing is kept after a call.
  * Memory: a call takes memory by malloc, realloc and free, and has given all of it back when it returns. If it runs out of memory, the last
  *   line is `stopped: memory`, in place of the one that the run ended with. A call holds one item, which a sender can make large: an item of
  *   small integers takes 32 times its bytes, one of many small signatures or recipients up to 180 times (docs/TIMES.md, "Memory").
- *   cose_gate_stream_check holds no payload; it has no lines, and its fault is COSE_GATE_MEMORY.
+ *   cose_gate_stream_check and cose_gate_stream_ask hold no payload (the second as much of what is covered as `question` has bytes); they
+ *   have no lines, and the fault is COSE_GATE_MEMORY.
  *   The three functions are those of one allocator, and malloc and realloc align to each power of two up to 16 that divides the size.
  * Stack: with 256 levels and 16 layers each call was seen to take up to 179 KiB, on the worst messages of each shape that we could make; with
- *   the widest limits, 4,096 and 64, up to 6,157 KiB. What Rattle's own compiler builds takes up to 3,530 KiB and more (docs/TIMES.md, "Stack").
+ *   the widest limits, 4,096 and 64, up to 6,160 KiB. What Rattle's own compiler builds takes up to 3,530 KiB and more (docs/TIMES.md, "Stack").
  *   Under a limit of the address space, the first thread has to use that much once before any call (docs/LIBRARY.md).
  * Threads: any number of threads may call at once, each with buffers of its own. The library has no state, and starts no thread.
  * Signals and fork: not from a signal handler, and not in the forked child of a process with threads, as malloc isn't safe there.
@@ -144,6 +145,43 @@ cose_gate_stream_answer cose_gate_stream_check(const uint8_t *keys, size_t keys_
                                                const uint8_t *message, size_t message_length,
                                                size_t nesting, size_t layers);
 
+/* cose_gate_stream_ask tells the question about the message at the front of `message`, so that a hash or signature check of the caller's own
+ * goes over the payload in place: a COSE_Mac0 as above, or a COSE_Sign1 with its tag, 18 (RFC 9052, section 4.2). It judges nothing; what
+ * comes after the message is not read.
+ *
+ * `question` takes the record that cose_gate_ask writes for this message, without the payload: the first `head` bytes of `question`, the
+ * payload, and the rest of `question` are that record. The lengths in it count the payload. What the signature or MAC covers ends with the
+ * payload (sections 4.4 and 6.3), and after it comes the signature. cose_gate_stream_parts takes `question` apart.
+ *
+ * COSE_GATE_ASKED: the question is written. COSE_GATE_NO_ROOM: it needs a buffer of `question_length` bytes, and the rest of the answer is
+ * there. COSE_GATE_LIMITS: as above. COSE_GATE_STOPPED: no such message is at the front, or memory ran out; `fault` says why. With these
+ * three `question` stays as it was. A buffer of some hundred bytes mostly serves; with COSE_GATE_NO_ROOM a second call does. */
+enum { COSE_GATE_ASKED = 0 };
+
+typedef struct cose_gate_stream_question {
+  uint32_t status;        /* COSE_GATE_ASKED, COSE_GATE_LIMITS, COSE_GATE_STOPPED or COSE_GATE_NO_ROOM */
+  uint32_t fault;         /* why, with COSE_GATE_STOPPED; else COSE_GATE_NO_FAULT */
+  size_t length;          /* bytes of the message; with COSE_GATE_LIMITS and COSE_GATE_STOPPED this and the following are 0 */
+  size_t payload;         /* how many of them are before its payload */
+  size_t payload_length;  /* bytes of the payload */
+  size_t head;            /* bytes of the record before the payload */
+  size_t question_length; /* bytes of the record without the payload; with COSE_GATE_NO_ROOM the size that the buffer needs */
+} cose_gate_stream_question;
+
+COSE_GATE_ASSERT(offsetof(cose_gate_stream_question, status) == 0, "status");
+COSE_GATE_ASSERT(offsetof(cose_gate_stream_question, fault) == 4, "fault");
+COSE_GATE_ASSERT(offsetof(cose_gate_stream_question, length) == 8, "length");
+COSE_GATE_ASSERT(offsetof(cose_gate_stream_question, payload) == 16, "payload");
+COSE_GATE_ASSERT(offsetof(cose_gate_stream_question, payload_length) == 24, "payload_length");
+COSE_GATE_ASSERT(offsetof(cose_gate_stream_question, head) == 32, "head");
+COSE_GATE_ASSERT(offsetof(cose_gate_stream_question, question_length) == 40, "question_length");
+COSE_GATE_ASSERT(sizeof(cose_gate_stream_question) == 48, "cose_gate_stream_question");
+
+cose_gate_stream_question cose_gate_stream_ask(const uint8_t *aad, size_t aad_length,
+                                               const uint8_t *message, size_t message_length,
+                                               uint8_t *question, size_t question_length,
+                                               size_t nesting, size_t layers);
+
 /* The kinds of messages that are asked about, by their tags (RFC 9052, section 2). */
 enum { COSE_GATE_MAC0 = 17, COSE_GATE_SIGN1 = 18, COSE_GATE_MAC = 97, COSE_GATE_SIGN = 98 };
 
@@ -205,6 +243,26 @@ static inline bool cose_gate_next(cose_gate_text *rest, cose_gate_question *ques
          cose_gate_next_text(&key, &question->signer_protected) && cose_gate_next_text(&key, &question->signer_unprotected) &&
          cose_gate_next_text(&key, &question->recipients) && cose_gate_next_text(&key, &question->covered) &&
          cose_gate_next_text(&key, &question->signature) && key.length == 0;
+}
+
+/* Shows a question that cose_gate_stream_ask wrote: `record` and `covered` are without the payload, which comes after this `covered`. False
+ * if `question` and `answer` are not of one call. */
+static inline bool cose_gate_stream_parts(const uint8_t *question, const cose_gate_stream_question *answer, cose_gate_question *parts) {
+  if (answer->status != COSE_GATE_ASKED || answer->head < 16 || answer->question_length < answer->head) {
+    return false;
+  }
+  cose_gate_text head = {question + 16, answer->head - 16}, behind = {question + answer->head, answer->question_length - answer->head};
+  parts->record.at = question;
+  parts->record.length = answer->question_length;
+  parts->kind = cose_gate_number(question + 8);
+  if (!cose_gate_next_text(&head, &parts->protected_header) || !cose_gate_next_text(&head, &parts->unprotected_header) ||
+      !cose_gate_next_text(&head, &parts->signer_protected) || !cose_gate_next_text(&head, &parts->signer_unprotected) ||
+      !cose_gate_next_text(&head, &parts->recipients) || head.length < 8) {
+    return false;
+  }
+  parts->covered.at = head.at + 8;
+  parts->covered.length = head.length - 8;
+  return cose_gate_next_text(&behind, &parts->signature) && behind.length == 0;
 }
 
 #ifdef __cplusplus

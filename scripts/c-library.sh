@@ -2,7 +2,7 @@
 # c-library.sh [left] [c|rust|go|python|image|compare|memory|valgrind..]: proves and builds the static library cose_gate_c if a source of it has
 # changed, and then builds and runs what is asked, or all, with the tools that are there; it says which are not.
 #   c, rust, go, python   the example of that language on examples/mixed.cbor: status 1, four messages passed; of Python also es256.py
-#   image                 examples/c/image.c over good, changed and cut images, one of 64 MiB without a copy
+#   image                 examples/c/image.c and question.c over good, changed and cut images, one of 64 MiB without a copy
 #   compare               what these examples, or all, give against what the program gives, over examples/*.cbor; the library's shared object
 #                         against the program over the rows `run` of conformance_gate, and over 1,000 mutated sequences
 #   memory                the C test under ASan, and with each malloc refused in turn, over the worked examples and 1,000 mutated ones; archive
@@ -142,8 +142,9 @@ fi
 if wants image; then
   if has gcc && has python3; then
     build_of image
+    build_of question
     build_of check
-    python3 "$top/scripts/c-image.py" "$made/image_c" "$made/check_c"
+    python3 "$top/scripts/c-image.py" "$made/image_c" "$made/question_c" "$made/check_c"
   else
     lacks "gcc or python3" "the check of images"
   fi

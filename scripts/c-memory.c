@@ -1,7 +1,7 @@
 /* c-memory.c: KEYS FILE..: the library under tools that watch memory, over each file: output buffers from none to more than is needed, with bytes
  * after them that must stay as they are; the questions, all of which are then accepted; and the message at its front in place, which the gate
- * has to judge the same. With -DREFUSE each malloc and realloc is refused in turn, over the first file, no block may be left, and the last
- * line, or the fault, has to say it, after whole lines of the run. */
+ * has to judge the same, and whose question has to be the same. With -DREFUSE each malloc and realloc is refused in turn, over the first file,
+ * no block may be left, and the last line, or the fault, has to say it, after whole lines of the run. */
 #define _GNU_SOURCE
 #include "cose_gate.h"
 
@@ -149,6 +149,48 @@ static cose_gate_stream_answer stream(bytes input) {
   return cose_gate_stream_check(keys.at, keys.length, aad, 1, input.at, input.length, COSE_GATE_NESTING, COSE_GATE_LAYERS);
 }
 
+static cose_gate_stream_question ask_stream(bytes input, bytes question) {
+  return cose_gate_stream_ask(aad, 1, input.at, input.length, question.at, question.length, COSE_GATE_NESTING, COSE_GATE_LAYERS);
+}
+
+/* The question about a message in place, in buffers from none to more than is needed: with the payload it is the record that cose_gate_ask
+ * gives of this message. */
+static void asked_in_place(bytes one, cose_gate_stream_answer answer, bool all) {
+  bytes lines, none = room_of(0);
+  uint32_t status;
+  bytes record = exactly(1, keys, one, &lines, &status);
+  cose_gate_stream_question needed = ask_stream(one, none);
+  size_t whole = needed.question_length, behind = whole - needed.head;
+  assert(needed.status == COSE_GATE_NO_ROOM && whole + answer.payload_length == record.length && needed.head < whole);
+  assert(needed.length == answer.length && needed.payload == answer.payload && needed.payload_length == answer.payload_length);
+  for (size_t room = all ? 0 : whole - 1; room <= whole + 2; room++) {
+    bytes question = room_of(room);
+    memset(question.at, 0xaa, room);
+    cose_gate_stream_question asked = ask_stream(one, question);
+    bool fits = whole <= room;
+    for (size_t i = fits ? whole : 0; i < room; i++) assert(question.at[i] == 0xaa);
+    needed.status = fits ? COSE_GATE_ASKED : COSE_GATE_NO_ROOM;
+    assert(memcmp(&asked, &needed, sizeof asked) == 0);
+    cose_gate_question parts = {0}, gathered = {0};
+    cose_gate_text rest = {record.at, record.length};
+    bool is_gathered = cose_gate_next(&rest, &gathered), is_shown = cose_gate_stream_parts(question.at, &asked, &parts);
+    assert(is_gathered && is_shown == fits);
+    if (is_gathered && is_shown) {
+      assert(memcmp(question.at, record.at, asked.head) == 0);
+      assert(memcmp(one.at + asked.payload, record.at + asked.head, asked.payload_length) == 0);
+      assert(memcmp(question.at + asked.head, record.at + asked.head + asked.payload_length, behind) == 0);
+      assert(parts.kind == gathered.kind && parts.covered.length + asked.payload_length == gathered.covered.length);
+      assert(parts.recipients.at - question.at == gathered.recipients.at - record.at);
+      assert(parts.recipients.length == gathered.recipients.length && parts.signature.length == gathered.signature.length);
+      assert(parts.signature.at + parts.signature.length == question.at + whole);
+    }
+    free(question.at);
+  }
+  free(none.at);
+  free(lines.at);
+  free(record.at);
+}
+
 /* The message at the front, with what comes after it and alone, in a block of just its length; what the gate says of it; and cut, at every place
  * or at some. */
 static void in_place(bytes input, bool all) {
@@ -157,13 +199,21 @@ static void in_place(bytes input, bool all) {
   assert(is_judged || answer.status == COSE_GATE_STOPPED);
   assert(is_judged == (answer.fault == COSE_GATE_NO_FAULT) && is_judged == (answer.length > 0) && answer.fault < COSE_GATE_MEMORY);
   assert(is_judged == (answer.payload > 0) && answer.payload + answer.payload_length <= answer.length && answer.length <= input.length);
-  if (!is_judged) return;
-  bytes one = room_of(answer.length), out = room_of(answer.length), none = room_of(0);
+  bytes none = room_of(0);
+  cose_gate_stream_question asked = ask_stream(input, none);
+  assert(asked.fault == answer.fault && asked.status == (is_judged ? COSE_GATE_NO_ROOM : COSE_GATE_STOPPED));
+  if (!is_judged) {
+    assert(asked.length == 0 && asked.payload == 0 && asked.payload_length == 0 && asked.head == 0 && asked.question_length == 0);
+    free(none.at);
+    return;
+  }
+  bytes one = room_of(answer.length), out = room_of(answer.length);
   memcpy(one.at, input.at, one.length);
   cose_gate_stream_answer alone = stream(one);
   assert(memcmp(&alone, &answer, sizeof alone) == 0);
   cose_gate_answer gated = call(0, keys, one, out, none);
   assert((gated.length > 0) == (answer.status == COSE_GATE_ALL_PASSED));
+  asked_in_place(one, answer, all);
   for (size_t length = 0; length < one.length; length += all ? 1 : 29) {
     bytes cut = room_of(length);
     memcpy(cut.at, one.at, length);
@@ -192,6 +242,28 @@ static void each_refused_in_place(bytes input) {
   refused = -1;
   is_watched = 0;
   printf("c-memory: cose_gate_stream_check: %ld mallocs, each refused in turn: %ld times stopped, as the fault says, no block left\n", all, all);
+}
+
+static void each_refused_asked(bytes input) {
+  static uint8_t room[65536], same[65536];
+  bytes question = {room, sizeof room};
+  memset(same, 0xaa, sizeof same);
+  is_watched = 1;
+  calls = 0;
+  refused = -1;
+  cose_gate_stream_question asked = ask_stream(input, question);
+  long all = calls;
+  assert(live == 0 && asked.status == COSE_GATE_ASKED);
+  for (refused = 0; refused < all; refused++) {
+    calls = 0;
+    memset(room, 0xaa, sizeof room);
+    asked = ask_stream(input, question);
+    assert(live == 0 && asked.status == COSE_GATE_STOPPED && asked.fault == COSE_GATE_MEMORY && asked.length == 0);
+    assert(memcmp(room, same, sizeof room) == 0);
+  }
+  refused = -1;
+  is_watched = 0;
+  printf("c-memory: cose_gate_stream_ask: %ld mallocs, each refused in turn: %ld times stopped, as the fault says, no block left\n", all, all);
 }
 
 static void each_refused(int which, bytes given, bytes input) {
@@ -246,6 +318,7 @@ int main(int count, char **words) {
   each_refused(1, keys, input);
   each_refused(2, records, input);
   each_refused_in_place(input);
+  each_refused_asked(input);
   free(input.at);
   free(lines.at);
   free(records.at);

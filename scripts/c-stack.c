@@ -1,6 +1,7 @@
 /* c-stack.c: KEYS NESTING LAYERS FILE..: the stack that each call of the library takes over each file, in a thread whose stack is filled with a
  * pattern before; a thread's start is among it. A line for each file: its bytes for cose_gate_check, cose_gate_ask, cose_gate_pass with the
- * records that cose_gate_ask gave, and for cose_gate_stream_check; and what the program would say of its first message. */
+ * records that cose_gate_ask gave, and for cose_gate_stream_check or cose_gate_stream_ask, whichever takes more; and what the program would
+ * say of its first message. */
 #define _GNU_SOURCE
 #include "cose_gate.h"
 
@@ -33,6 +34,11 @@ static void *on_stack(void *unused) {
   if (which == 3) {
     cose_gate_stream_answer streamed = cose_gate_stream_check(keys.at, keys.length, keys.at, 0, input.at, input.length, nesting, layers);
     assert(streamed.status != COSE_GATE_LIMITS && streamed.status != COSE_GATE_KEYS && streamed.fault != COSE_GATE_MEMORY);
+    return NULL;
+  }
+  if (which == 4) {
+    cose_gate_stream_question asked = cose_gate_stream_ask(keys.at, 0, input.at, input.length, output.at, MOST, nesting, layers);
+    assert(asked.status != COSE_GATE_LIMITS && asked.status != COSE_GATE_NO_ROOM && asked.fault != COSE_GATE_MEMORY);
     return NULL;
   }
   cose_gate_answer answer;
@@ -83,8 +89,8 @@ int main(int count, char **words) {
     char line[64] = {0};
     size_t length = strcspn((char *)lines.at, "\n");
     memcpy(line, lines.at, length < 63 ? length : 63);
-    size_t ask = stack_of(1), pass = stack_of(2);
-    printf("%zu %zu %zu %zu %s\n", check, ask, pass, stack_of(3), line);
+    size_t ask = stack_of(1), pass = stack_of(2), checked = stack_of(3), asked = stack_of(4);
+    printf("%zu %zu %zu %zu %s\n", check, ask, pass, checked > asked ? checked : asked, line);
   }
   return 0;
 }

@@ -84,13 +84,15 @@ def abi():
         return [name for _, name in fields]
 
     fields_of("StreamAnswer", "crates/cose_gate_c/src/streaming.rt", "cose_gate_stream_answer")
+    fields_of("StreamQuestion", "crates/cose_gate_c/src/stream_asking.rt", "cose_gate_stream_question")
     names = fields_of("Answer", "crates/cose_gate_records/src/answer.rt", "cose_gate_answer")
     rust = "examples/rust/src/main.rs"
     fields = re.search(r"^struct Answer \{(.*?)\n\}", text(rust), re.M | re.S)[1]
     same("the fields of an answer are", names, rust, re.findall(r"^    (\w+): ", fields, re.M))
     python = "examples/python/cose_gate.py"
     same("the fields of an answer are", names, python, re.findall(r'\("(\w+)",', found(python, r"_fields_ = (.*?)$")[0]))
-    for exported, declared in [("Answer", "cose_gate_answer"), ("StreamAnswer", "cose_gate_stream_answer")]:
+    for exported, declared in [("Answer", "cose_gate_answer"), ("StreamAnswer", "cose_gate_stream_answer"),
+                               ("StreamQuestion", "cose_gate_stream_question")]:
         calls = found("crates/cose_gate_c/src/lib.rt", rf'extern "C" fn (\w+)\(([^{{]*?)\n\) -> {exported}$')
         same("the calls are", [name for name, _ in calls], header, found(header, rf"^{declared} (\w+)\("))
         for name, parameters in calls:

@@ -1,2 +1,4 @@
+pub mod Keeping
 pub mod Places
+pub mod StreamAsking
 pub mod Streaming

@@ -1,4 +1,4 @@
--- What the streaming check over memory returns.
+-- What the streaming calls over memory find, and what the check of these returns.
 use Rattle.std.specs.Prelude.{◌≡◌, ℕ, ◌⊎◌, List, [], ◌∷◌, ◌++◌, length, Some, Bool, if◌then◌else◌}
 use Rattle.coset_labels.specs.Limits.{AreLimits}
 use Rattle.coset_labels.specs.Reading.{HasItem, WrongItem}
@@ -37,18 +37,9 @@ fault_number fault.Unsized = 5
 fault_number (fault.Decode e) = 6
 fault_number fault.Memory = 7
 
--- nothing was checked, and this says why
-pub record IsUnchecked (status fault : ℕ) (answer : StreamAnswer) : Type 0 where
-  pub status_is : answer.status ≡ status
-  pub fault_is : answer.fault ≡ fault
-  pub length_is : answer.length ≡ 0
-  pub payload_is : answer.payload ≡ 0
-  pub payload_length_is : answer.payload_length ≡ 0
-
--- within these limits the bytes are one message that states its payload's length in front; it has
--- one question, and this is the answer to it
-pub record IsAnswered (limits : Bounds) (allows : Question → Bool) (aad : List ℕ) (yes : Bool)
-    (b : List ℕ) : Type 0 where
+-- within these limits the bytes are one message that states its payload's length in front, and it
+-- has one question
+pub record HasQuestion (limits : Bounds) (aad b : List ℕ) : Type 0 where
   pub item : Tree
   pub message : MessageFields
   pub size : ℕ
@@ -58,42 +49,54 @@ pub record IsAnswered (limits : Bounds) (allows : Question → Bool) (aad : List
   pub single : IsSingle message
   pub stated : Stated b size
   pub asked : all_questions message aad ≡ Some (question ∷ [])
-  pub answer : yes ≡ allows question
 
--- the bytes begin with such a message: 0 after a yes, 1 after a no, how long the message is, and
--- where its payload lies in it
-pub record IsChecked (limits : Bounds) (allows : Question → Bool) (aad input : List ℕ)
-    (answer : StreamAnswer) : Type 0 where
+-- the bytes begin with such a message, which has so many bytes, and its payload lies there in it
+pub record IsInFront (limits : Bounds) (aad input : List ℕ) (size at count : ℕ) : Type 0 where
   pub front : List ℕ
   pub rest : List ℕ
   pub whole : input ≡ front ++ rest
-  pub yes : Bool
-  pub answered : IsAnswered limits allows aad yes front
+  pub asked : HasQuestion limits aad front
   pub payload : List ℕ
-  pub is_payload : payload_of answered.message ≡ Some payload
-  pub lies : Lies payload answer.payload answer.payload_length front
-  pub status_is : answer.status ≡ (if yes then 0 else 1)
-  pub fault_is : answer.fault ≡ 0
-  pub length_is : answer.length ≡ length front
+  pub is_payload : payload_of asked.message ≡ Some payload
+  pub lies : Lies payload at count front
+  pub size_is : size ≡ length front
 
--- the bytes begin with none, or memory ran out: what the fault says of them is true
-pub record IsStopped (limits : Bounds) (input : List ℕ) (answer : StreamAnswer) : Type 0 where
+-- the bytes begin with none, or memory ran out: what this fault says of them is true, and its number
+-- is said
+pub record IsStopped (limits : Bounds) (input : List ℕ) (IsSaid : ℕ → Type 0) : Type 0 where
   pub why : Why
   pub shown : UnstreamedBy limits (length input) input why
-  pub unchecked : IsUnchecked 4 (number_of why) answer
+  pub said : IsSaid (number_of why)
 
--- if the bytes begin with such a message, it was checked, or memory ran out
-abbrev pub IsCheckedIfStated : Bounds → List ℕ → StreamAnswer → Type 0
-IsCheckedIfStated limits input answer =
+-- if the bytes begin with such a message, there is no fault, or memory ran out
+abbrev pub IsFoundIfStated : Bounds → List ℕ → ℕ → Type 0
+IsFoundIfStated limits input number =
     (item : Tree) (front rest : List ℕ) (message : MessageFields) (size : ℕ)
     → input ≡ front ++ rest → Reads front limits.nesting item → IsJudged limits item message
-    → IsSingle message → Stated front size → (answer.fault ≡ 0) ⊎ (answer.fault ≡ 7)
+    → IsSingle message → Stated front size → (number ≡ 0) ⊎ (number ≡ 7)
+
+-- nothing was checked, and this says why
+pub record IsUnchecked (status fault : ℕ) (answer : StreamAnswer) : Type 0 where
+  pub status_is : answer.status ≡ status
+  pub fault_is : answer.fault ≡ fault
+  pub length_is : answer.length ≡ 0
+  pub payload_is : answer.payload ≡ 0
+  pub payload_length_is : answer.payload_length ≡ 0
+
+-- the bytes begin with such a message: 0 after a yes to its question, 1 after a no, how long the
+-- message is, and where its payload lies in it
+pub record IsChecked (limits : Bounds) (allows : Question → Bool) (aad input : List ℕ)
+    (answer : StreamAnswer) : Type 0 where
+  pub found : IsInFront limits aad input answer.length answer.payload answer.payload_length
+  pub status_is : answer.status ≡ (if allows found.asked.question then 0 else 1)
+  pub fault_is : answer.fault ≡ 0
 
 -- what the check of the message in front comes to, by a judge
 pub record ChecksFront (limits : Bounds) (allows : Question → Bool) (aad input : List ℕ)
     (answer : StreamAnswer) : Type 0 where
-  pub ended : IsChecked limits allows aad input answer ⊎ IsStopped limits input answer
-  pub stated : IsCheckedIfStated limits input answer
+  pub ended : IsChecked limits allows aad input answer
+      ⊎ IsStopped limits input (λ fault. IsUnchecked 4 fault answer)
+  pub stated : IsFoundIfStated limits input answer.fault
 
 -- what the call comes to: the limits are looked at before the keys, and the keys before the message
 pub data StreamChecks (nesting layers : ℕ) (keys aad input : List ℕ) (answer : StreamAnswer)

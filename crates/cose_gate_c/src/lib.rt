@@ -1,15 +1,20 @@
 //! The gate for C, and for languages that call C: over buffers that the caller owns. Each function
-//! calls one of `cose_gate_records`, and the last the module `streaming`. `include/cose_gate.h`
-//! declares them.
+//! calls one of `cose_gate_records`, and the last two the modules `streaming` and `stream_asking`.
+//! `include/cose_gate.h` declares them.
 #![tactic(auto)]
 
 ghost use Rattle.std.specs.Prelude.{◌≡◌};
+ghost use Rattle.cose_gate_c.specs.StreamAsking.{StreamAsks};
 ghost use Rattle.cose_gate_c.specs.Streaming.{StreamChecks};
 ghost use Rattle.cose_gate_records.specs.Calls.{Asks, Checks, Passes, buffers};
 
+mod keeping;
 mod placing;
+mod question_writing;
+mod stream_asking;
 mod streaming;
 
+use crate::stream_asking::{StreamQuestion, ask_message};
 use crate::streaming::{StreamAnswer, check_message};
 use cose_gate_records::{Answer, Choice, ask, check, pass};
 use std::alloc::Global;
@@ -100,4 +105,26 @@ pub extern "C" fn cose_gate_stream_check(
     ensures { StreamChecks nesting layers keys.now aad.now message.now result }
 {
     check_message(alloc, nesting, layers, keys, aad, message)
+}
+
+/// The question about the COSE_Sign1 or COSE_Mac0 at the front of `message`, which is read in place:
+/// the record that `cose_gate_ask` writes for it, without the payload, and where the payload is in
+/// `message`. With `head` bytes of `question`, then the payload, and then the rest of `question` it
+/// is that record; the covered bytes end with the payload (RFC 9052, sections 4.4 and 6.3). What
+/// comes after the message is not read.
+///
+/// If that is longer than `question`, and only then, the status is 5. With each status but 0
+/// `question` stays as it was.
+#[unsafe(no_mangle)]
+pub extern "C" fn cose_gate_stream_ask(
+    alloc: Global,
+    aad: &[u8],
+    message: &[u8],
+    question: &mut [u8],
+    nesting: usize,
+    layers: usize,
+) -> StreamQuestion
+    ensures { StreamAsks nesting layers aad.now message.now question.old question.new result }
+{
+    ask_message(alloc, nesting, layers, aad, message, question)
 }

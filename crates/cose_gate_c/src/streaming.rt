@@ -65,7 +65,7 @@ fn unchecked(status: u32, fault: u32) -> StreamAnswer
 }
 
 /// The number of a fault.
-fn fault_number(fault: &StreamFault<End>) -> u32
+pub(crate) fn fault_number(fault: &StreamFault<End>) -> u32
     ensures { result ≡ spec.fault_number fault.now }
 {
     match fault {
