@@ -32,7 +32,9 @@ def refusals():
     same("the refusals are", sorted(variants), report, sorted(order))
     same("the names of refusals are", sorted(order), "crates/cose_gate_program/src/lines.rt",
          sorted(found("crates/cose_gate_program/src/lines.rt", r'^        Refusal::\w+(?:\(_\))? => ": refused: (\w+)\\n"')))
-    same("the refusals are", order, "docs/cose-gate.1", found("docs/cose-gate.1", r"^\.TP\n\.B ([A-Z]\w+)$"))
+    of_stream = found("crates/cose_stream/src/telling.rt", r'^        StreamRefusal::\w+ => "refused: (\w+)\\n"')
+    same("the refusals are", order + [name for name in of_stream if name not in order], "docs/cose-gate.1",
+         found("docs/cose-gate.1", r"^\.TP\n\.B ([A-Z]\w+)$"))
 
 
 def statuses():
