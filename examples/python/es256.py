@@ -1,8 +1,10 @@
-"""Signatures that the caller checks: COSE_Sign1 with ES256 (RFC 9053, section 2.1), by `ask` and `pass_accepted` of cose_gate.py. It makes a
-key and messages with Debian's python3-cbor2 and python3-cryptography, spoils one, and prints what passes:
-es256.py LIBRARY. Build and run: `bash scripts/c-library.sh python`."""
+"""Signatures that the caller checks: COSE_Sign1 with ES256 (RFC 9053, section 2.1), by `ask` and `pass_accepted` of cose_gate.py, and of a
+mapped file, whose payload isn't copied, by `stream_ask`. It makes a key and messages with Debian's python3-cbor2 and python3-cryptography,
+spoils some, and prints what passes: es256.py LIBRARY. Build and run: `bash scripts/c-library.sh python`."""
 
+import mmap
 import sys
+import tempfile
 
 import cbor2
 from cryptography.exceptions import InvalidSignature
@@ -28,8 +30,9 @@ def sign(key, kid, aad, payload, more={}):
     return cbor2.dumps(cbor2.CBORTag(SIGN1, [protected, {KID: kid}, payload, signature]))
 
 
-def is_good(question, keys):
-    """Whether the signature is good, under the key of the message's key id. No critical label is known here (RFC 9052, section 3.1)."""
+def is_good(question, keys, payload=b""):
+    """Whether the signature is good, under the key of the message's key id. `payload` is what `covered` lacks, as `stream_ask` gives it. No
+    critical label is known here (RFC 9052, section 3.1)."""
     if question.kind != SIGN1 or not question.protected:
         return False
     header, other = cbor2.loads(question.protected), cbor2.loads(question.unprotected)
@@ -39,8 +42,11 @@ def is_good(question, keys):
     if key is None or len(question.signature) != 64:
         return False
     r, s = (int.from_bytes(part, "big") for part in (question.signature[:32], question.signature[32:]))
+    digest = hashes.Hash(hashes.SHA256())
+    digest.update(question.covered)
+    digest.update(payload)
     try:
-        key.verify(utils.encode_dss_signature(r, s), question.covered, ec.ECDSA(hashes.SHA256()))
+        key.verify(utils.encode_dss_signature(r, s), digest.finalize(), ec.ECDSA(utils.Prehashed(hashes.SHA256())))
     except InvalidSignature:
         return False
     return True
@@ -66,6 +72,16 @@ def main(words):
     assert gate.pass_accepted(accepted, aad, renamed).passed == b""
     assert gate.pass_accepted([], aad, input).passed == b""
     print(checked.lines, end="")
+    with tempfile.TemporaryFile() as file:
+        file.write(sign(signer, b"01", aad, bytes(1 << 20)))
+        file.flush()
+        image = mmap.mmap(file.fileno(), 0, access=mmap.ACCESS_COPY)
+    question, front = gate.stream_ask(aad, image)
+    payload = memoryview(image)[front.payload]
+    assert front.length == len(image) and len(payload) == 1 << 20 and len(question.record) < 256
+    assert is_good(question, keys, payload)
+    payload[-1] = 1
+    assert not is_good(question, keys, payload)
 
 
 if __name__ == "__main__":
