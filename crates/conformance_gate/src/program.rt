@@ -2,11 +2,11 @@
 use crate::out::{NoAnswer, Out};
 use crate::words;
 use ciborium_ll::Io;
-use cose_gate::{Blocks, Mem, Write};
+use cose_gate::{Mem, Write};
 use cose_gate_command::{KeyFile, NotRun, ask, ended, pass};
 use cose_stream::{end_status, stream, stream_arguments, tell_end};
 use std::alloc::Global;
-use std::io::{BufReader, BufWriter, Cursor};
+use std::io::{BufWriter, Cursor};
 use test_tools::Held;
 
 /// A run with these keys and this AADHEX: its status, its output, and its lines.
@@ -155,7 +155,7 @@ pub fn stream_in_room(to: &mut Out, row: &mut &str) {
     }
 }
 
-/// The check of a message that comes in blocks of seven bytes: the status, and the lines.
+/// The check of a message: the status, and the lines.
 fn streamed<W: Write>(to: &mut Out, row: &mut &str, out: &mut W) -> Option<(u8, Held)> {
     let keys = words::optional(to, row);
     let input = words::bytes(to, row);
@@ -164,11 +164,7 @@ fn streamed<W: Write>(to: &mut Out, row: &mut &str, out: &mut W) -> Option<(u8, 
         to.text("usage");
         return None;
     };
-    let Ok(blocks) = BufReader::with_capacity(to.alloc(), 7, input.as_slice()) else {
-        to.refuse(NoAnswer::Memory);
-        return None;
-    };
-    let mut reader = Blocks::new(blocks);
+    let mut reader = input.as_slice();
     let mut err = shown_writer(to);
     let end = stream(to.alloc(), keys.as_deref(), asked.aad, &mut reader, out);
     let status = end_status(&end);

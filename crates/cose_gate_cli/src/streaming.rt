@@ -1,6 +1,7 @@
 //! `cose-gate --stream`: one message, and the file that its payload goes to.
 use crate::front;
-use cose_gate::{Blocks, GateFault, Nowhere};
+use ciborium_ll::{Io, Read};
+use cose_gate::{GateFault, Nowhere};
 use cose_gate_command::{Content, KeyFile, NotRun, ended, read_in_blocks, write_in_blocks};
 use cose_gate_program::OutBlocks;
 use cose_stream::{
@@ -25,7 +26,9 @@ fn check(rt: &HostRuntime, asked: StreamArguments<'_>) -> Result<u8, NotRun> {
     let mut lines = write_in_blocks(alloc, rt.stderr())?;
     let front = front(alloc)?;
     let file = key_file(asked.keys, keys.bytes.as_deref(), keys.fault);
-    let end = check_input(rt, asked, file.bytes, &mut Blocks::new(input))?;
+    // Another reader than the gate's: with one type of fault the compiler would no longer put what
+    // both call into the gate, and each of its messages would take 4 % more instructions.
+    let end = check_input(rt, asked, file.bytes, &mut Io::new(input))?;
     let status = end_status(&end);
     tell_end(end, file, &mut OutBlocks::new(front, &mut lines));
     // What a flush that failed has left isn't written as the program ends.
@@ -39,11 +42,11 @@ fn key_file<'a>(name: &'a str, bytes: Option<&'a [u8]>, fault: &'a str) -> KeyFi
 }
 
 /// The check of this input under the keys that these bytes are.
-fn check_input<R: io::Read>(
+fn check_input<R: Read>(
     rt: &HostRuntime,
     asked: StreamArguments<'_>,
     keys: Option<&[u8]>,
-    input: &mut Blocks<R>,
+    input: &mut R,
 ) -> Result<Result<(), StreamStop>, NotRun> {
     match asked.payload {
         Some(name) => check_into(rt, name, keys, asked.aad, input),
@@ -53,12 +56,12 @@ fn check_input<R: io::Read>(
 
 /// The same, whose payload is in the file of this name after a yes. Up to then it is in one whose
 /// name has `.part` after it.
-fn check_into<R: io::Read>(
+fn check_into<R: Read>(
     rt: &HostRuntime,
     name: &str,
     keys: Option<&[u8]>,
     aad: Option<&str>,
-    input: &mut Blocks<R>,
+    input: &mut R,
 ) -> Result<Result<(), StreamStop>, NotRun> {
     let alloc = rt.alloc();
     let part = part_of(alloc, name)?;

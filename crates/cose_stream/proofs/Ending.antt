@@ -1,6 +1,6 @@
 -- What the streaming check says of the input, as the end of the run says it.
-use Rattle.std.proofs.Common.{◌≡◌, ℕ, ◌+◌, ◌≤◌, List, [], ◌++◌, length, Option, None, Some, Bool, false, Result, Ok, Err, zero-add, append-nil, length-append, arith, refl, sym, ap, subst, ◌∙◌}
-use Rattle.std.specs.Prelude.{is_err}
+use Rattle.std.proofs.Common.{◌≡◌, ℕ, ◌+◌, ◌≤◌, List, [], ◌++◌, length, Option, None, Some, Bool, true, false, Result, Ok, Err, zero-add, append-nil, length-append, arith, refl, sym, ap, subst, ◌∙◌}
+use Rattle.std.specs.Prelude.{is_err, IsTrue, if◌then◌else◌}
 use Rattle.std.specs.Io.KnownBytes.{Appends, Consumes, Keeps}
 use Rattle.std.proofs.KnownBytes.{Appends-kept}
 use Rattle.std.proofs.lemmas.Bool.{true≢false}
@@ -15,13 +15,15 @@ use Rattle.cose_gate.specs.GateFault.TheVariants as gating
 use Rattle.coset_labels.specs.Limits.{nesting, layers}
 use Rattle.cose_gate.specs.Questions.{Question}
 use Rattle.cose_gate.specs.Reading.{IfKnown}
-use Rattle.cose_gate.specs.Streaming.{CopiedBy, Tells, IsLongFor, Unstreamed, UnstreamedBy, WritesAll, untagged, tagged, shape, without_payload, without_length}
+use Rattle.cose_gate.specs.Streaming.{CopiedBy, Tells, IsLongFor, Unstreamed, UnstreamedBy, WritesAll, Why, fault_failures, damaged, untagged, tagged, shape, without_payload, without_length}
 use Rattle.cose_gate.specs.Faults.{fault_of}
 use Rattle.cose_gate.specs.declared.fault.StreamFault.{StreamFault}
 use Rattle.cose_gate.specs.declared.fault.StreamFault.TheVariants as fault
 use Rattle.cose_gate.proofs.Faults.{Names}
-use Rattle.cose_gate_program.specs.declared.devices.InputFault.{InputFault}
-use Rattle.cose_stream.specs.Streams.{Ended, IsAnswered, IsNoEnd, stopped_by}
+use Rattle.cose_gate_program.specs.Faults.{is_end}
+use Rattle.ciborium.specs.declared.de.Error.{Error}
+use Rattle.cose_gate.specs.Damage.{end}
+use Rattle.cose_stream.specs.Streams.{Ended, IsAnswered, IsNoEnd, error_of, failures_after, input_fault, stopped_by}
 use Rattle.cose_stream.specs.declared.stop.StreamStop.{StreamStop}
 use Rattle.cose_stream.specs.declared.stop.StreamStop.TheVariants as stop
 
@@ -29,27 +31,59 @@ known_as : (l : Option (List ℕ)) (P Q : List ℕ → Type 0) → ((b : List �
 known_as None P Q f k = tt
 known_as (Some b) P Q f k = f b k
 
-module _ {W F : Type 0} (allows : Question → Bool) (aad : List ℕ) (ends : InputFault → Bool) (w : Writing W F) (out out' : W) where
-  stops_at : (l : Option (List ℕ)) (f : StreamFault InputFault) → IfKnown l (λ b. Tells ends (Unstreamed (0 + length b) b) (IsLongFor 4096 0 b) f)
-      → Ended allows aad ends l w out out' (Err (stopped_by f))
-  stops_at l (fault.Decode e) k = known_as l _ _ (λ b t. subst (λ (n : ℕ). Tells ends (Unstreamed n b) (IsLongFor 4096 0 b) (fault.Decode e)) (zero-add (length b)) t) k
-  stops_at l fault.NotTagged k = known_as l _ _ (λ b t. (untagged, refl, subst (λ (n : ℕ). Unstreamed n b untagged) (zero-add (length b)) t)) k
-  stops_at l (fault.OtherTag n) k = known_as l _ _ (λ b t. (tagged n, (n, refl), subst (λ (m : ℕ). Unstreamed m b (tagged n)) (zero-add (length b)) t)) k
-  stops_at l (fault.Shape e) k = known_as l _ _ (λ b t. (shape (fault_of e), (fault_of e, refl), subst (λ (n : ℕ). Unstreamed n b (shape (fault_of e))) (zero-add (length b)) t)) k
-  stops_at l fault.Detached k = known_as l _ _ (λ b t. (without_payload, refl, subst (λ (n : ℕ). Unstreamed n b without_payload) (zero-add (length b)) t)) k
-  stops_at l fault.Unsized k = known_as l _ _ (λ b t. (without_length, refl, subst (λ (n : ℕ). Unstreamed n b without_length) (zero-add (length b)) t)) k
-  stops_at l fault.Memory k = tt
+-- a fault, without what it holds, tells the same
+ends_so : (D : Type 0) (ended : Bool) → (IsTrue ended → D) → IsTrue (is_end (input_fault ended)) → D
+ends_so D true f t = f t
+ends_so D false f t = absurd (true≢false (sym t))
 
-  pub stops : (levels layers' : ℕ) (from l : Option (List ℕ)) (o : ℕ) (f : StreamFault InputFault) → levels ≡ nesting → layers' ≡ layers → from ≡ l → o ≡ 0
-      → Names ends (UnstreamedBy (plain levels layers')) 4096 from o f → Ended allows aad ends l w out out' (Err (stopped_by f))
-  stops levels layers' from l o f n y is start by =
+told_small : {E : Type 0} (ends : E → Bool) (D : Why → Type 0) (long : Type 0) (e : Error E) → Tells ends D long (fault.Decode e) → Tells is_end D long (fault.Decode (error_of ends e))
+told_small ends D long (de.Io x) t = ends_so (D (damaged end)) (ends x) t
+told_small ends D long (de.Syntax p) t = t
+told_small ends D long (de.Semantic p k) t = t
+told_small ends D long de.RecursionLimitExceeded t = t
+told_small ends D long de.Memory t = t
+told_small ends D long de.TooLong t = t
+
+counts_so : (n : ℕ) (ended : Bool) → (if is_end (input_fault ended) then n else n + 1) ≡ (if ended then n else n + 1)
+counts_so n true = refl
+counts_so n false = refl
+
+pub same_failures : {E : Type 0} (ends : E → Bool) (f : StreamFault E) (n : ℕ) → failures_after (Err (stopped_by ends f)) n ≡ fault_failures ends f n
+same_failures ends (fault.Decode (de.Io x)) n = counts_so n (ends x)
+same_failures ends (fault.Decode (de.Syntax p)) n = refl
+same_failures ends (fault.Decode (de.Semantic p k)) n = refl
+same_failures ends (fault.Decode de.RecursionLimitExceeded) n = refl
+same_failures ends (fault.Decode de.Memory) n = refl
+same_failures ends (fault.Decode de.TooLong) n = refl
+same_failures ends fault.NotTagged n = refl
+same_failures ends (fault.OtherTag k) n = refl
+same_failures ends (fault.Shape k) n = refl
+same_failures ends fault.Detached n = refl
+same_failures ends fault.Unsized n = refl
+same_failures ends fault.Memory n = refl
+
+module _ {W F : Type 0} (allows : Question → Bool) (aad : List ℕ) (w : Writing W F) (out out' : W) where
+  stops_at : {E : Type 0} (ends : E → Bool) (l : Option (List ℕ)) (f : StreamFault E) → IfKnown l (λ b. Tells ends (Unstreamed (0 + length b) b) (IsLongFor 4096 0 b) f)
+      → Ended allows aad l w out out' (Err (stopped_by ends f))
+  stops_at ends l (fault.Decode e) k =
+      known_as l _ _ (λ b t. subst (λ (n : ℕ). Tells is_end (Unstreamed n b) (IsLongFor 4096 0 b) (fault.Decode (error_of ends e))) (zero-add (length b)) (told_small ends (Unstreamed (0 + length b) b) (IsLongFor 4096 0 b) e t)) k
+  stops_at ends l fault.NotTagged k = known_as l _ _ (λ b t. (untagged, refl, subst (λ (n : ℕ). Unstreamed n b untagged) (zero-add (length b)) t)) k
+  stops_at ends l (fault.OtherTag n) k = known_as l _ _ (λ b t. (tagged n, (n, refl), subst (λ (m : ℕ). Unstreamed m b (tagged n)) (zero-add (length b)) t)) k
+  stops_at ends l (fault.Shape e) k = known_as l _ _ (λ b t. (shape (fault_of e), (fault_of e, refl), subst (λ (n : ℕ). Unstreamed n b (shape (fault_of e))) (zero-add (length b)) t)) k
+  stops_at ends l fault.Detached k = known_as l _ _ (λ b t. (without_payload, refl, subst (λ (n : ℕ). Unstreamed n b without_payload) (zero-add (length b)) t)) k
+  stops_at ends l fault.Unsized k = known_as l _ _ (λ b t. (without_length, refl, subst (λ (n : ℕ). Unstreamed n b without_length) (zero-add (length b)) t)) k
+  stops_at ends l fault.Memory k = tt
+
+  pub stops : {E : Type 0} (ends : E → Bool) (levels layers' : ℕ) (from l : Option (List ℕ)) (o : ℕ) (f : StreamFault E) → levels ≡ nesting → layers' ≡ layers → from ≡ l → o ≡ 0
+      → Names ends (UnstreamedBy (plain levels layers')) 4096 from o f → Ended allows aad l w out out' (Err (stopped_by ends f))
+  stops ends levels layers' from l o f n y is start by =
       let usually = subst (λ (z : ℕ). Names ends (UnstreamedBy (plain nesting z)) 4096 from o f) y (subst (λ (z : ℕ). Names ends (UnstreamedBy (plain z layers')) 4096 from o f) n by) in
       let whole = subst (λ (z : Option (List ℕ)). Names ends Unstreamed 4096 z o f) is usually in
-      stops_at l f (subst (λ (z : ℕ). Names ends Unstreamed 4096 l z f) start whole).1
+      stops_at ends l f (subst (λ (z : ℕ). Names ends Unstreamed 4096 l z f) start whole).1
 
   -- the input couldn't be read on after a message
-  pub reads_no_more : (l : Option (List ℕ)) (at : ℕ) (f : StreamStop) → IfKnown l (λ b. at ≤ length b) → IsNoEnd ends at f → Ended allows aad ends l w out out' (Err f)
-  reads_no_more l at (stop.Stopped (gating.Decode (de.Io e))) k none = known_as l _ _ (λ b p. λ ended. absurd (none ended)) k
+  pub reads_no_more : (l : Option (List ℕ)) (at : ℕ) (f : StreamStop) → IfKnown l (λ b. at ≤ length b) → IsNoEnd at f → Ended allows aad l w out out' (Err f)
+  reads_no_more l at (stop.Stopped (gating.Decode (de.Io e))) k none = known_as l _ _ (λ b p. λ ended. absurd (true≢false (sym ended ∙ none))) k
   reads_no_more l at (stop.Stopped (gating.Decode de.TooLong)) k none = known_as l _ _ (λ b p. omega (arith, p, none)) k
   reads_no_more l at (stop.Stopped (gating.Decode (de.Syntax p))) k none = absurd none
   reads_no_more l at (stop.Stopped (gating.Decode (de.Semantic p i))) k none = absurd none

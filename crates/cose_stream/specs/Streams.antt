@@ -1,5 +1,5 @@
 -- How the check of one message ends.
-use Rattle.std.specs.Prelude.{◌≡◌, ◌≢◌, ℕ, ◌+◌, ◌^◌, ◌≤◌, List, [], ◌++◌, length, Option, Some, Bool, true, false, IsTrue, Result, Ok, Err, is_none, if◌then◌else◌}
+use Rattle.std.specs.Prelude.{◌≡◌, ◌≢◌, ℕ, ◌+◌, ◌^◌, ◌≤◌, List, [], ◌++◌, length, Option, Some, Bool, true, false, Result, Ok, Err, is_none, if◌then◌else◌}
 use Rattle.std.specs.Io.KnownBytes.{Appends}
 use Rattle.ciborium_ll.specs.declared.read.Read.{Ghosts as Reading}
 use Rattle.ciborium_ll.specs.declared.write.Write.{Ghosts as Writing}
@@ -20,22 +20,37 @@ use Rattle.cose_gate.specs.Tree.{Tree}
 use Rattle.cose_gate.specs.declared.fault.StreamFault.{StreamFault}
 use Rattle.cose_gate.specs.declared.fault.StreamFault.TheVariants as fault
 use Rattle.cose_gate.specs.GateFault.TheVariants as gating
+use Rattle.cose_gate_program.specs.Faults.{is_end}
 use Rattle.cose_gate_program.specs.declared.devices.InputFault.{InputFault}
+use Rattle.cose_gate_program.specs.declared.devices.InputFault.TheVariants as input
+use Rattle.ciborium.specs.declared.de.Error.{Error}
 use Rattle.coset_labels.specs.Reading.{HasItem}
 use Rattle.cose_stream.specs.declared.stop.StreamRefusal.{StreamRefusal}
 use Rattle.cose_stream.specs.declared.stop.StreamRefusal.TheVariants as refusal
 use Rattle.cose_stream.specs.declared.stop.StreamStop.{StreamStop}
 use Rattle.cose_stream.specs.declared.stop.StreamStop.TheVariants as stop
 
+-- the fault of a reader, without what it holds
+abbrev pub input_fault : Bool → InputFault
+input_fault ended = if ended then input.End else input.Failed
+
+abbrev pub error_of : {E : Type 0} → (E → Bool) → Error E → Error InputFault
+error_of ends (de.Io e) = de.Io (input_fault (ends e))
+error_of ends (de.Syntax at) = de.Syntax at
+error_of ends (de.Semantic at k) = de.Semantic at k
+error_of ends de.RecursionLimitExceeded = de.RecursionLimitExceeded
+error_of ends de.Memory = de.Memory
+error_of ends de.TooLong = de.TooLong
+
 -- why no message was checked, as the streaming check has it
-abbrev pub stopped_by : StreamFault InputFault → StreamStop
-stopped_by (fault.Decode e) = stop.Stopped (gating.Decode e)
-stopped_by fault.Memory = stop.Stopped gating.Memory
-stopped_by fault.NotTagged = stop.Refused refusal.NotTagged
-stopped_by (fault.OtherTag n) = stop.Refused refusal.OtherTag
-stopped_by (fault.Shape e) = stop.Refused refusal.Shape
-stopped_by fault.Detached = stop.Refused refusal.Detached
-stopped_by fault.Unsized = stop.Refused refusal.Unsized
+abbrev pub stopped_by : {E : Type 0} → (E → Bool) → StreamFault E → StreamStop
+stopped_by ends (fault.Decode e) = stop.Stopped (gating.Decode (error_of ends e))
+stopped_by ends fault.Memory = stop.Stopped gating.Memory
+stopped_by ends fault.NotTagged = stop.Refused refusal.NotTagged
+stopped_by ends (fault.OtherTag n) = stop.Refused refusal.OtherTag
+stopped_by ends (fault.Shape e) = stop.Refused refusal.Shape
+stopped_by ends fault.Detached = stop.Refused refusal.Detached
+stopped_by ends fault.Unsized = stop.Refused refusal.Unsized
 
 -- the bytes are one message that states its payload's length in front, this is its payload, and
 -- this the answer to its question
@@ -76,36 +91,35 @@ IsRefused allows aad left why =
 
 -- how the check ends by this judge and external data: the whole input is such a message, the answer
 -- is yes, and its payload was written; or what is said of the input is true
-abbrev pub Ended : {W F : Type 0} → (Question → Bool) → List ℕ → (InputFault → Bool)
-    → Option (List ℕ) → Writing W F → W → W → Result (Unit {0}) StreamStop → Type 0
-Ended allows aad ends left w out out' (Ok u) =
+abbrev pub Ended : {W F : Type 0} → (Question → Bool) → List ℕ → Option (List ℕ) → Writing W F → W → W → Result (Unit {0}) StreamStop → Type 0
+Ended allows aad left w out out' (Ok u) =
     (payload front : List ℕ) × IsAnswered allows aad true payload front
     × IfKnown left (λ b. b ≡ front)
     × (w.failed out' ≡ w.failed out) × Appends (w.written out) (w.written out') payload
-Ended allows aad ends left w out out' (Err (stop.NotBegun why)) = ⊥
-Ended allows aad ends left w out out' (Err (stop.Refused why)) = IsRefused allows aad left why
-Ended allows aad ends left w out out' (Err (stop.Stopped (gating.Decode e))) =
-    IfKnown left (λ b. Tells ends (Unstreamed (length b) b) (IsLongFor 4096 0 b) (fault.Decode e))
-Ended allows aad ends left w out out' (Err (stop.Stopped gating.Write)) =
+Ended allows aad left w out out' (Err (stop.NotBegun why)) = ⊥
+Ended allows aad left w out out' (Err (stop.Refused why)) = IsRefused allows aad left why
+Ended allows aad left w out out' (Err (stop.Stopped (gating.Decode e))) =
+    IfKnown left (λ b. Tells is_end (Unstreamed (length b) b) (IsLongFor 4096 0 b) (fault.Decode e))
+Ended allows aad left w out out' (Err (stop.Stopped gating.Write)) =
     w.failed out' ≡ w.failed out + 1
-Ended allows aad ends left w out out' (Err (stop.Stopped gating.Memory)) = Unit {0}
+Ended allows aad left w out out' (Err (stop.Stopped gating.Memory)) = Unit {0}
 
 -- how often the input has failed after this end, if it had so often before
-abbrev pub failures_after : (InputFault → Bool) → Result (Unit {0}) StreamStop → ℕ → ℕ
-failures_after ends (Err (stop.Stopped (gating.Decode (de.Io e)))) n = if ends e then n else n + 1
-failures_after ends other n = n
+abbrev pub failures_after : Result (Unit {0}) StreamStop → ℕ → ℕ
+failures_after (Err (stop.Stopped (gating.Decode (de.Io e)))) n = if is_end e then n else n + 1
+failures_after other n = n
 
 -- the same by what KEYS holds, if it can be read, and AADHEX; or the check doesn't begin, and
 -- nothing was read or written
-pub data Streams {R W F : Type 0} (r : Reading R InputFault) (w : Writing W F)
+pub data Streams {R E W F : Type 0} (r : Reading R E) (w : Writing W F)
     (keys aad : Option (List ℕ)) (old new : R) (out out' : W)
     (result : Result (Unit {0}) StreamStop) : Type 0 where
   not_begun : (why : _) → BeginsNot keys (aad_of aad) why → result ≡ Err (stop.NotBegun why)
       → new ≡ old → out' ≡ out → Streams r w keys aad old new out out' result
   begun : (bytes d : List ℕ) (ks : List KeyFields) → keys ≡ Some bytes
       → HasItem HasKeySet bytes ks → aad_of aad ≡ Some d
-      → Ended (says_yes ks) d r.ends (r.left old) w out out' result
-      → r.failed new ≡ failures_after r.ends result (r.failed old)
+      → Ended (says_yes ks) d (r.left old) w out out' result
+      → r.failed new ≡ failures_after result (r.failed old)
       → Streams r w keys aad old new out out' result
 
 -- whether these are no bytes
@@ -114,7 +128,7 @@ IsEnd left true = IfKnown left (λ b. b ≡ [])
 IsEnd left false = IfKnown left (λ b. b ≢ [])
 
 -- the input failed, or offsets grow too long
-abbrev pub IsNoEnd : (InputFault → Bool) → ℕ → StreamStop → Type 0
-IsNoEnd ends at (stop.Stopped (gating.Decode (de.Io e))) = IsTrue (ends e) → ⊥
-IsNoEnd ends at (stop.Stopped (gating.Decode de.TooLong)) = 2 ^ 64 ≤ at + 1
-IsNoEnd ends at other = ⊥
+abbrev pub IsNoEnd : ℕ → StreamStop → Type 0
+IsNoEnd at (stop.Stopped (gating.Decode (de.Io e))) = is_end e ≡ false
+IsNoEnd at (stop.Stopped (gating.Decode de.TooLong)) = 2 ^ 64 ≤ at + 1
+IsNoEnd at other = ⊥

@@ -1,5 +1,9 @@
 //! Why no message has passed.
-use cose_gate::{GateFault, InputFault, NotBegun, StreamFault};
+ghost use Rattle.std.specs.Prelude.{◌≡◌};
+ghost use Rattle.cose_stream.specs.Streams as spec;
+
+use ciborium_ll::Read;
+use cose_gate::{GateFault, InputFault, NotBegun, StreamFault, de};
 
 /// Why the message was refused.
 #[derive(Debug, Clone, Copy, PartialEq, Eq)]
@@ -42,22 +46,32 @@ impl From<NotBegun> for StreamStop {
     }
 }
 
-/// No message was checked.
-impl From<StreamFault<InputFault>> for StreamStop {
-    ghost use Rattle.std.specs.Prelude.{◌≡◌};
-    ghost use Rattle.cose_stream.specs.Streams.{stopped_by};
+/// The fault of a reader of this type without what it holds: it has ended, or failed.
+fn error_of<R: Read>(error: de::Error<R::Error>) -> de::Error<InputFault>
+    ensures { result ≡ spec.error_of R.ends error }
+{
+    match error {
+        de::Error::Io(fault) if R::is_end(&fault) => de::Error::Io(InputFault::End),
+        de::Error::Io(_) => de::Error::Io(InputFault::Failed),
+        de::Error::Syntax(at) => de::Error::Syntax(at),
+        de::Error::Semantic(at, kind) => de::Error::Semantic(at, kind),
+        de::Error::RecursionLimitExceeded => de::Error::RecursionLimitExceeded,
+        de::Error::Memory => de::Error::Memory,
+        de::Error::TooLong => de::Error::TooLong,
+    }
+}
 
-    ghost from_gives = { λ fault stop. stop ≡ stopped_by fault };
-
-    fn from(fault: StreamFault<InputFault>) -> StreamStop {
-        match fault {
-            StreamFault::Decode(error) => StreamStop::Stopped(GateFault::Decode(error)),
-            StreamFault::Memory => StreamStop::Stopped(GateFault::Memory),
-            StreamFault::NotTagged => StreamStop::Refused(StreamRefusal::NotTagged),
-            StreamFault::OtherTag(_) => StreamStop::Refused(StreamRefusal::OtherTag),
-            StreamFault::Shape(_) => StreamStop::Refused(StreamRefusal::Shape),
-            StreamFault::Detached => StreamStop::Refused(StreamRefusal::Detached),
-            StreamFault::Unsized => StreamStop::Refused(StreamRefusal::Unsized),
-        }
+/// Why no message was checked.
+pub(crate) fn stopped_by<R: Read>(fault: StreamFault<R::Error>) -> StreamStop
+    ensures { result ≡ spec.stopped_by R.ends fault }
+{
+    match fault {
+        StreamFault::Decode(error) => StreamStop::Stopped(GateFault::Decode(error_of::<R>(error))),
+        StreamFault::Memory => StreamStop::Stopped(GateFault::Memory),
+        StreamFault::NotTagged => StreamStop::Refused(StreamRefusal::NotTagged),
+        StreamFault::OtherTag(_) => StreamStop::Refused(StreamRefusal::OtherTag),
+        StreamFault::Shape(_) => StreamStop::Refused(StreamRefusal::Shape),
+        StreamFault::Detached => StreamStop::Refused(StreamRefusal::Detached),
+        StreamFault::Unsized => StreamStop::Refused(StreamRefusal::Unsized),
     }
 }

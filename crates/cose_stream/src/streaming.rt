@@ -6,7 +6,7 @@ ghost use Rattle.cose_gate.specs.HmacJudges.{says_yes};
 ghost use Rattle.cose_gate.specs.KeyView.{key_set_view};
 ghost use Rattle.cose_stream.specs.Streams.{Ended, IsEnd, IsNoEnd, Streams, failures_after};
 
-use crate::stop::{StreamRefusal, StreamStop};
+use crate::stop::{StreamRefusal, StreamStop, stopped_by};
 use ciborium_ll::{Decoder, Error, Read, Write};
 use cose_gate::{GateFault, HmacJudge, InputFault, Limits, de, stream_check_into};
 use cose_gate_program::{Beginning, begin};
@@ -23,7 +23,7 @@ const PIECE: usize = 4096;
 /// `NotBegun`, and then nothing was read. Else the first fault: `Refused` or `Stopped` as
 /// `stream_check` has it; `Stopped` if the payload can't be written; `Judged`; `ExtraneousData` if
 /// the input goes on.
-pub fn stream<R: Read<Error = InputFault>, W: Write>(
+pub fn stream<R: Read, W: Write>(
     alloc: Global,
     keys: Option<&[u8]>,
     aad: Option<&str>,
@@ -40,15 +40,15 @@ pub fn stream<R: Read<Error = InputFault>, W: Write>(
 }
 
 /// Checks the message with these keys.
-fn check<R: Read<Error = InputFault>, W: Write>(
+fn check<R: Read, W: Write>(
     alloc: Global,
     beginning: &Beginning,
     input: &mut R,
     out: &mut W,
 ) -> Result<(), StreamStop>
     ensures ended { Ended (says_yes (key_set_view beginning.now.keys)) beginning.now.aad.items
-        R.ends (R.left input.old) W.Write out.old out.new result }
-    ensures failed { R.failed input.new ≡ failures_after R.ends result (R.failed input.old) }
+        (R.left input.old) W.Write out.old out.new result }
+    ensures failed { R.failed input.new ≡ failures_after result (R.failed input.old) }
     ensures kept { R.handle input.new ≡ R.handle input.old }
     ensures lent { W.handle out.new ≡ W.handle out.old }
 {
@@ -57,7 +57,7 @@ fn check<R: Read<Error = InputFault>, W: Write>(
     let mut buffer = [0; PIECE];
     let aad = beginning.aad.as_slice();
     let limits = Limits::default();
-    let streamed = stream_check_into(
+    let streamed = match stream_check_into(
         alloc,
         limits,
         &mut decoder,
@@ -65,7 +65,10 @@ fn check<R: Read<Error = InputFault>, W: Write>(
         aad,
         &mut judge,
         out,
-    )?;
+    ) {
+        Ok(streamed) => streamed,
+        Err(fault) => return Err(stopped_by::<&mut R>(fault)),
+    };
     if streamed.written.is_err() {
         return Err(StreamStop::Stopped(GateFault::Write));
     }
@@ -82,20 +85,22 @@ fn check<R: Read<Error = InputFault>, W: Write>(
 }
 
 /// Whether nothing is to come. If there is something, a byte of it is taken.
-fn has_ended<R: Read<Error = InputFault>>(decoder: &mut Decoder<R>) -> Result<bool, StreamStop>
+fn has_ended<R: Read>(decoder: &mut Decoder<R>) -> Result<bool, StreamStop>
     requires { waiting_of decoder.old ≡ None }
     ensures ok { IfOk result (IsEnd (left_of R.left decoder.old)) }
-    ensures err { IfErr result (IsNoEnd R.ends (offset_of decoder.old)) }
+    ensures err { IfErr result (IsNoEnd (offset_of decoder.old)) }
     ensures kept { R.handle (reader_of decoder.new) ≡ R.handle (reader_of decoder.old) }
     ensures going { OnOk result (R.failed (reader_of decoder.new)
         ≡ R.failed (reader_of decoder.old)) }
     ensures failed { IfErr result (λ why. R.failed (reader_of decoder.new)
-        ≡ failures_after R.ends (Err why) (R.failed (reader_of decoder.old))) }
+        ≡ failures_after (Err why) (R.failed (reader_of decoder.old))) }
 {
     match decoder.read_exact(&mut [0]) {
         Ok(()) => Ok(false),
         Err(Error::Io(fault)) if R::is_end(&fault) => Ok(true),
-        Err(Error::Io(fault)) => Err(StreamStop::Stopped(GateFault::Decode(de::Error::Io(fault)))),
+        Err(Error::Io(_)) => Err(StreamStop::Stopped(GateFault::Decode(de::Error::Io(
+            InputFault::Failed,
+        )))),
         Err(_) => Err(StreamStop::Stopped(GateFault::Decode(de::Error::TooLong))),
     }
 }

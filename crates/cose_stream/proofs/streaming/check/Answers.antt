@@ -6,40 +6,39 @@ use Rattle.cose_stream.specs.Streams.{IsAnswered, IsEnd}
 use Rattle.cose_stream.proofs.Ending.{stops, reads_no_more, all_known, nothing_more, behind, from_start, taken, all_written}
 use Rattle.cose_stream.proofs.streaming.check.Goals as goal
 
-pub returns-in_err-streamed-clause-ended : goal.returns-in_err-streamed-clause-ended
-returns-in_err-streamed-clause-ended g c =
-    let p = err_from_is_err_and c.from_residual.result c.from_residual.ensures.1 in
-    rw (p.1, p.2) (stops _ _ g.R.Read.ends g.W.Write _ _ _ _ _ _ _ _ c.default-limits.ensures.0 c.default-limits.ensures.1
-    (from_start g.R.Read.left _ _ _ (ap (λ (z : MutBor _). z.now) c.from-decoder.ensures.0) c.from-decoder.ensures.2) c.from-decoder.ensures.1 c.in_err-streamed.ensures.err)
+pub returns-in-Err-clause-ended : goal.returns-in-Err-clause-ended
+returns-in-Err-clause-ended g c =
+    rw c.stopped_by.ensures (stops _ _ g.W.Write _ _ g.R.Read.ends _ _ _ _ _ _ c.default-limits.ensures.0 c.default-limits.ensures.1
+    (from_start g.R.Read.left _ _ _ (ap (λ (z : MutBor _). z.now) c.from-decoder.ensures.0) c.from-decoder.ensures.2) c.from-decoder.ensures.1 c.in-Err.ensures.err)
 
 pub returns-then-not-streamed-clause-ended : goal.returns-then-not-streamed-clause-ended
 returns-then-not-streamed-clause-ended g c =
     let t = taken _ _ _ _ _ _ _ _ _ (key_set_view c.args.beginning.now.keys) _ _ _ _ _ _ _ _ c.default-limits.ensures.0 c.default-limits.ensures.1 c.new-judge.ensures c.as_slice-aad.ensures.value
-    (from_start g.R.Read.left _ _ _ (ap (λ (z : MutBor _). z.now) c.from-decoder.ensures.0) c.from-decoder.ensures.2) c.from-decoder.ensures.1 c.in_ok-streamed.ensures.ok in
+    (from_start g.R.Read.left _ _ _ (ap (λ (z : MutBor _). z.now) c.from-decoder.ensures.0) c.from-decoder.ensures.2) c.from-decoder.ensures.1 c.in-Ok.ensures.ok in
     (t.payload, t.front, subst (λ (z : Bool). IsAnswered (says_yes (key_set_view c.args.beginning.now.keys)) c.args.beginning.now.aad.items z t.payload t.front) c.if-not-streamed.true t.answered, behind _ _ t.front _ t.left (all_known _))
 
 pub returns-in_err-has_ended-clause-ended : goal.returns-in_err-has_ended-clause-ended
 returns-in_err-has_ended-clause-ended g c =
     let t = taken _ _ _ _ _ _ _ _ _ (key_set_view c.args.beginning.now.keys) _ _ _ _ _ _ _ _ c.default-limits.ensures.0 c.default-limits.ensures.1 c.new-judge.ensures c.as_slice-aad.ensures.value
-    (from_start g.R.Read.left _ _ _ (ap (λ (z : MutBor _). z.now) c.from-decoder.ensures.0) c.from-decoder.ensures.2) c.from-decoder.ensures.1 c.in_ok-streamed.ensures.ok in
-    let p = err_from_is_err_and c.from_residual-in_err-has_ended.result c.from_residual-in_err-has_ended.ensures.1 in
-    rw (p.1, p.2) (reads_no_more _ _ g.R.Read.ends g.W.Write _ _ _ _ _ t.within c.in_err-has_ended.ensures.err)
+    (from_start g.R.Read.left _ _ _ (ap (λ (z : MutBor _). z.now) c.from-decoder.ensures.0) c.from-decoder.ensures.2) c.from-decoder.ensures.1 c.in-Ok.ensures.ok in
+    let p = err_from_is_err_and c.from_residual.result c.from_residual.ensures.1 in
+    rw (p.1, p.2) (reads_no_more _ _ g.W.Write _ _ _ _ _ t.within c.in_err-has_ended.ensures.err)
 
 pub returns-then-not-branch-clause-ended : goal.returns-then-not-branch-clause-ended
 returns-then-not-branch-clause-ended g c =
     let t = taken _ _ _ _ _ _ _ _ _ (key_set_view c.args.beginning.now.keys) _ _ _ _ _ _ _ _ c.default-limits.ensures.0 c.default-limits.ensures.1 c.new-judge.ensures c.as_slice-aad.ensures.value
-    (from_start g.R.Read.left _ _ _ (ap (λ (z : MutBor _). z.now) c.from-decoder.ensures.0) c.from-decoder.ensures.2) c.from-decoder.ensures.1 c.in_ok-streamed.ensures.ok in (
+    (from_start g.R.Read.left _ _ _ (ap (λ (z : MutBor _). z.now) c.from-decoder.ensures.0) c.from-decoder.ensures.2) c.from-decoder.ensures.1 c.in-Ok.ensures.ok in (
       t.payload,
       t.front,
       subst (λ (z : Bool). IsAnswered (says_yes (key_set_view c.args.beginning.now.keys)) c.args.beginning.now.aad.items z t.payload t.front) c.if-not-streamed.false t.answered,
       behind _ _ t.front _ t.left (subst (IsEnd _) c.if-not-branch.true c.in_ok-has_ended.ensures.ok),
     )
 
-pub returns-in-Ok-clause-ended : goal.returns-in-Ok-clause-ended
-returns-in-Ok-clause-ended g c =
+pub returns-in-Ok-flush-clause-ended : goal.returns-in-Ok-flush-clause-ended
+returns-in-Ok-flush-clause-ended g c =
     let t = taken _ _ _ _ _ _ _ _ _ (key_set_view c.args.beginning.now.keys) _ _ _ _ _ _ _ _ c.default-limits.ensures.0 c.default-limits.ensures.1 c.new-judge.ensures c.as_slice-aad.ensures.value
-    (from_start g.R.Read.left _ _ _ (ap (λ (z : MutBor _). z.now) c.from-decoder.ensures.0) c.from-decoder.ensures.2) c.from-decoder.ensures.1 c.in_ok-streamed.ensures.ok in
-    let sent = all_written g.W.Write _ _ _ _ t.payload c.if-is_err.ensures.value t.copied c.in-Ok.ensures.same c.in-Ok.ensures.failed in (
+    (from_start g.R.Read.left _ _ _ (ap (λ (z : MutBor _). z.now) c.from-decoder.ensures.0) c.from-decoder.ensures.2) c.from-decoder.ensures.1 c.in-Ok.ensures.ok in
+    let sent = all_written g.W.Write _ _ _ _ t.payload c.if-is_err.ensures.value t.copied c.in-Ok-flush.ensures.same c.in-Ok-flush.ensures.failed in (
       t.payload,
       t.front,
       subst (λ (z : Bool). IsAnswered (says_yes (key_set_view c.args.beginning.now.keys)) c.args.beginning.now.aad.items z t.payload t.front) c.if-not-streamed.false t.answered,
