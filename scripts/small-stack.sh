@@ -89,8 +89,8 @@ fi
 keys=$top/examples/keys.cbor
 table=$folder/table
 echo "KiB of stack, by LLVM and by Rattle's own compiler
-| message | cose-gate | | cose-show | | cose-ask | | cose-pass | | conformance_cose | | C: check, ask, pass, stream |
-|---|---|---|---|---|---|---|---|---|---|---|---|" > "$table"
+| message | cose-gate | | cose-gate --stream | | cose-show | | cose-ask | | cose-pass | | conformance_cose | | C: check, ask, pass, stream |
+|---|---|---|---|---|---|---|---|---|---|---|---|---|---|" > "$table"
 limits=
 python3 "$top/scripts/worst-messages.py" "$folder/usual" > "$folder/said" || exit 2
 while read -r name said; do
@@ -98,6 +98,7 @@ while read -r name said; do
   "$crates/cose_ask_cli/out/cose_ask_cli" < "$message" > "$folder/records" 2> /dev/null
   line="| $name"
   both $four "cose-gate on $name" "$said" "$message" cose_gate_cli "$keys"
+  both $four "cose-gate --stream on $name" "" "$message" cose_gate_cli --stream "$keys"
   both $four "cose-show on $name" "" "$message" cose_show
   both $four "cose-ask on $name" "${said/Judged/passed}" "$message" cose_ask_cli
   both $four "cose-pass on $name" "${said/Judged/passed}" "$message" cose_pass_cli "$folder/records"
