@@ -42,8 +42,9 @@ With --strict a message that isn't in canonical encoding already is refused: Not
 On standard error: a line for each item, and at the end how many passed and were refused.
 With --verbose indented lines after these say why an item is refused, or the run stops.
 With --quiet an item that passed has no line.
-With --stream the input is one such message, of any size: it is checked as it comes, and nothing
-is written to standard output. FILE gets its payload once its MAC is found to be good.
+With --stream, which comes first, the input is one such message, of any size: it is checked as
+it comes, and nothing is written to standard output. FILE gets its payload once its MAC is found
+to be good.
 Status 0: no item was refused. 1: some were. 2: wrong arguments, or AADHEX is not hex.
 3: KEYS can't be read, or isn't a key set. 4: the input isn't CBOR, input or output failed, or
 it is out of memory.
