@@ -1,6 +1,6 @@
 -- What was written of questions, one after another.
-use Rattle.std.proofs.Common.{◌≡◌, ℕ, zero, suc, ◌+◌, ◌-◌, List, [], ◌∷◌, ◌++◌, length, take, map, flat_map, Option, Some, None, true, false, refl, sym, ap, subst, ◌∙◌, arith, append-nil, append_assoc, length-append}
-use Rattle.std.specs.Prelude.{Result, Ok, Err, OnErr, OnOk, IfOk, is_err}
+use Rattle.std.proofs.Common.{◌≡◌, ℕ, zero, suc, ◌+◌, ◌-◌, ◌≤◌, List, [], ◌∷◌, ◌++◌, length, take, map, flat_map, Option, Some, None, true, false, refl, sym, ap, subst, ◌∙◌, arith, append-nil, append_assoc, length-append}
+use Rattle.std.specs.Prelude.{Result, Ok, Err, OnErr, OnOk, IfOk, is_err, is_ok, if◌then◌else◌}
 use Rattle.std.specs.Io.KnownBytes.{Appends, Keeps}
 use Rattle.std.proofs.KnownBytes.{Appends-nil, Appends-trans}
 use Rattle.std.proofs.Math.Seq.{take-length}
@@ -14,7 +14,7 @@ use Rattle.cose_gate_core.specs.Asked.{folded_over}
 use Rattle.cose_gate_core.specs.Questions.{Question}
 use Rattle.cose_gate_command.specs.Asking.{Hands, IsStatus, Sent, or_status}
 use Rattle.cose_gate_command.specs.Lines.{parts_of, told_as}
-use Rattle.cose_gate_command.specs.Written.{IsWritten, IsWrittenSince, Asked, HasText, HasBeginning, Beginning, AreOut, added, parts_in}
+use Rattle.cose_gate_command.specs.Written.{IsWritten, AreWritten, AreWrittenSince, Asked, HasText, HasTexts, Beginning, AreOut, added, parts_in}
 use Rattle.cose_gate_command.specs.declared.options.Form.{Form}
 use Rattle.cose_gate_command.specs.declared.not_run.NotRun.{NotRun}
 use Rattle.cose_gate_command.specs.declared.not_run.NotRun.TheVariants as unrun
@@ -43,11 +43,11 @@ record LastIs {X Y : Type 0} (f : X → Y) (qs : List X) (ys : List Y) (y : Y) :
   pub last : X
   pub whole : qs ≡ before ++ last ∷ []
   pub first : map f before ≡ ys
-  pub then : y ≡ f last
+  pub is_last : y ≡ f last
 
 last_is : {X Y : Type 0} (f : X → Y) (qs : List X) (ys : List Y) (y : Y) → map f qs ≡ ys ++ y ∷ [] → LastIs f qs ys y
 last_is f [] [] y e = cc
-last_is f (q ∷ []) [] y e = record { before = []; last = q; whole = refl; first = refl; then = cc }
+last_is f (q ∷ []) [] y e = record { before = []; last = q; whole = refl; first = refl; is_last = cc }
 last_is f (q ∷ r ∷ qs) [] y e = cc
 last_is f [] (x ∷ ys) y e = cc
 last_is f (q ∷ qs) (x ∷ ys) y e =
@@ -59,11 +59,22 @@ last_is f (q ∷ qs) (x ∷ ys) y e =
       last = r.last;
       whole = ap (λ (z : List _). q ∷ z) r.whole;
       first = λ i. head i ∷ r.first i;
-      then = r.then;
+      is_last = r.is_last;
     }
 
 pub one_more : (told : List Parts) (p : Parts) (all : List Parts) {parts : List ℕ × List ℕ} → all ≡ told ++ p ∷ [] → parts_in p ≡ parts → map parts_in all ≡ map parts_in told ++ parts ∷ []
 one_more told p all e is = ap (map parts_in) e ∙ (map-append parts_in told (p ∷ []) ∙ ap (λ (z : _). map parts_in told ++ z ∷ []) is)
+
+take_whole : {A : Type 0} (n : ℕ) (xs ys : List A) → n ≡ length xs → take n (xs ++ ys) ≡ xs
+take_whole zero [] ys e = refl
+take_whole zero (x ∷ xs) ys e = absurd (omega (arith, e))
+take_whole (suc n) [] ys e = absurd (omega (arith, e))
+take_whole (suc n) (x ∷ xs) ys e = ap (λ (z : List _). x ∷ z) (take_whole n xs ys (omega (arith, e)))
+
+take_within : {A : Type 0} (n : ℕ) (xs ys : List A) → n ≤ length xs → take n (xs ++ ys) ≡ take n xs
+take_within zero xs ys l = refl
+take_within (suc n) [] ys l = absurd (omega (arith, l))
+take_within (suc n) (x ∷ xs) ys l = ap (λ (z : List _). x ∷ z) (take_within n xs ys (omega (arith, l)))
 
 module _ {W F : Type 0} (w : Writes W F) where
   pub stopped : (old new : W) (n : ℕ) (text : List ℕ) → w.failed new ≡ w.failed old + n → AppendsFront (w.written old) (w.written new) text → Beginning w old new n text
@@ -80,54 +91,75 @@ module _ {W F : Type 0} (w : Writes W F) where
   stopped_more : (old new : W) (n : ℕ) (a b : List ℕ) → Beginning w old new n a → Beginning w old new n (a ++ b)
   stopped_more old new n a b p = stopped old new n (a ++ b) p.0 (front_then (w.written old) (w.written new) a b (front old new n a p))
 
-  fell_then : (old mid new : W) (why : NotRun) (a b : List ℕ) → HasText w old mid (Ok tt) a → HasBeginning w mid new why b → HasBeginning w old new why (a ++ b)
-  fell_then old mid new unrun.Memory a b p q = stopped_then old mid new 0 a b p q
-  fell_then old mid new unrun.Output a b p q = stopped_then old mid new 1 a b p q
-  fell_then old mid new why a b p q = absurd q
-
-  fell_more : (old new : W) (why : NotRun) (a b : List ℕ) → HasBeginning w old new why a → HasBeginning w old new why (a ++ b)
-  fell_more old new unrun.Memory a b p = stopped_more old new 0 a b p
-  fell_more old new unrun.Output a b p = stopped_more old new 1 a b p
-  fell_more old new why a b p = absurd p
-
-  came_then : (old mid new : W) (r : Result (Unit {0}) NotRun) (a b : List ℕ) → HasText w old mid (Ok tt) a → HasText w mid new r b → HasText w old new r (a ++ b)
-  came_then old mid new (Ok u) a b p q = (q.0 ∙ p.0, Appends-trans (w.written old) (w.written mid) (w.written new) a b p.1 q.1)
-  came_then old mid new (Err why) a b p q = fell_then old mid new why a b p q
-
-  arrived_then : (begun : List W) (mid new : W) (r : Result (Unit {0}) NotRun) (a b : List ℕ) → IsWrittenSince w begun mid (Ok tt) a → IsWritten w mid new r b
-      → IsWrittenSince w begun new r (a ++ b)
-  arrived_then [] mid new r a b p q = tt
-  arrived_then (old ∷ more) mid new r a b p q = (q.0 ∙ p.0, came_then old mid new r a b p.1 q.1)
-
-  arrived_more : (begun : List W) (new : W) (why : NotRun) (a b : List ℕ) → IsWrittenSince w begun new (Err why) a → IsWrittenSince w begun new (Err why) (a ++ b)
-  arrived_more [] new why a b p = tt
-  arrived_more (old ∷ more) new why a b p = (p.0, fell_more old new why a b p.1)
-
   module _ (form : Form) where
     with_last : (qs : List Question) (q : Question) → flat_map (told_as form) qs ++ told_as form q ≡ flat_map (told_as form) (qs ++ q ∷ [])
     with_last qs q = flat_map_more (told_as form) [] qs q
 
-    -- one more question, which was written or a beginning of it, if all before it were written
-    pub writes_next : (begun : Log W) (old new : W) (written written' : Result (Unit {0}) NotRun) (told told' : Log Parts) (parts : List ℕ × List ℕ)
-        → AreOut w form begun old written told → OnErr written ((written' ≡ written) × (new ≡ old))
+    -- one more question after some that were all written
+    came_then : (old mid new : W) (r : Result (Unit {0}) NotRun) (n n' : ℕ) (qs : List Question) (q : Question) → HasTexts w form old mid (Ok tt) n qs → HasText w mid new r (told_as form q)
+        → n' ≡ (if is_ok r then n + 1 else n) → HasTexts w form old new r n' (qs ++ q ∷ [])
+    came_then old mid new (Ok u) n n' qs q p t e = (
+      (let l : length (qs ++ q ∷ []) ≡ length qs + 1 = length-append qs (q ∷ []) in let k : n ≡ length qs = p.0 in let m : n' ≡ n + 1 = e in omega arith),
+      (t.0 ∙ p.1.0, subst (Appends (w.written old) (w.written new)) (with_last qs q) (Appends-trans (w.written old) (w.written mid) (w.written new) (flat_map (told_as form) qs) (told_as form q) p.1.1 t.1)),
+    )
+    came_then old mid new (Err unrun.Memory) n n' qs q p t e =
+        let l : length (qs ++ q ∷ []) ≡ length qs + 1 = length-append qs (q ∷ []) in
+        let k : n ≡ length qs = p.0 in
+        let m : n' ≡ n = e in
+        let all : take n' (qs ++ q ∷ []) ≡ qs = take_whole n' qs (q ∷ []) (m ∙ k) in (
+          omega arith,
+          (
+            t.0 ∙ p.1.0,
+            subst (Appends (w.written old) (w.written new)) (append-nil (flat_map (told_as form) qs) ∙ ap (flat_map (told_as form)) (sym all))
+                (Appends-trans (w.written old) (w.written mid) (w.written new) (flat_map (told_as form) qs) [] p.1.1 t.1),
+          ),
+        )
+    came_then old mid new (Err unrun.Output) n n' qs q p t e =
+        subst (Beginning w old new 1) (with_last qs q) (stopped_then old mid new 1 (flat_map (told_as form) qs) (told_as form q) p.1 t)
+    came_then old mid new (Err why) n n' qs q p t e = absurd t
+
+    -- one more question after one that wasn't written
+    fell_more : (old new : W) (why : NotRun) (n : ℕ) (qs : List Question) (q : Question) → HasTexts w form old new (Err why) n qs → HasTexts w form old new (Err why) n (qs ++ q ∷ [])
+    fell_more old new unrun.Memory n qs q p =
+        let l : length (qs ++ q ∷ []) ≡ length qs + 1 = length-append qs (q ∷ []) in
+        let k : n ≤ length qs = p.0 in
+        (omega arith, (p.1.0, subst (λ (z : List Question). Appends (w.written old) (w.written new) (flat_map (told_as form) z)) (sym (take_within n qs (q ∷ []) p.0)) p.1.1))
+    fell_more old new unrun.Output n qs q p = subst (Beginning w old new 1) (with_last qs q) (stopped_more old new 1 (flat_map (told_as form) qs) (told_as form q) p)
+    fell_more old new why n qs q p = absurd p
+
+    arrived_then : (begun : List W) (mid new : W) (r : Result (Unit {0}) NotRun) (n n' : ℕ) (qs : List Question) (q : Question) → AreWrittenSince w form begun mid (Ok tt) n qs → IsWritten w mid new r (told_as form q)
+        → n' ≡ (if is_ok r then n + 1 else n) → AreWrittenSince w form begun new r n' (qs ++ q ∷ [])
+    arrived_then [] mid new r n n' qs q p t e = tt
+    arrived_then (old ∷ more) mid new r n n' qs q p t e = (t.0 ∙ p.0, came_then old mid new r n n' qs q p.1 t.1 e)
+
+    arrived_more : (begun : List W) (new : W) (why : NotRun) (n : ℕ) (qs : List Question) (q : Question) → AreWrittenSince w form begun new (Err why) n qs → AreWrittenSince w form begun new (Err why) n (qs ++ q ∷ [])
+    arrived_more [] new why n qs q p = tt
+    arrived_more (old ∷ more) new why n qs q p = (p.0, fell_more old new why n qs q p.1)
+
+    -- one more question, which was written or not, if all before it were written
+    pub writes_next : (begun : Log W) (old new : W) (written written' : Result (Unit {0}) NotRun) (sent sent' : Log ℕ) (told told' : Log Parts) (parts : List ℕ × List ℕ)
+        → AreOut w form begun old written sent told → OnErr written ((written' ≡ written) × (new ≡ old))
         → OnOk written ((q : Question) → parts ≡ parts_of form q → IsWritten w old new written' (told_as form q))
-        → map parts_in told'.items ≡ map parts_in told.items ++ parts ∷ [] → AreOut w form begun new written' told'
-    writes_next begun old new (Ok u) written' told told' parts before none one more qs e =
+        → length sent'.items ≡ (if is_ok written' then length sent.items + 1 else length sent.items)
+        → map parts_in told'.items ≡ map parts_in told.items ++ parts ∷ [] → AreOut w form begun new written' sent' told'
+    writes_next begun old new (Ok u) written' sent sent' told told' parts before none one count more qs e =
         let l = last_is (parts_of form) qs (map parts_in told.items) parts (e ∙ more) in
-        subst (λ (z : List ℕ). IsWrittenSince w begun.items new written' z) (with_last l.before l.last ∙ ap (flat_map (told_as form)) (sym l.whole))
-        (arrived_then begun.items old new written' (flat_map (told_as form) l.before) (told_as form l.last) (before l.before l.first) (one l.last l.then))
-    writes_next begun old new (Err why) written' told told' parts before same one more qs e =
+        subst (λ (z : List Question). AreWrittenSince w form begun.items new written' (length sent'.items) z) (sym l.whole)
+        (arrived_then begun.items old new written' (length sent.items) (length sent'.items) l.before l.last (before l.before l.first) (one l.last l.is_last) count)
+    writes_next begun old new (Err why) written' sent sent' told told' parts before same one count more qs e =
         let l = last_is (parts_of form) qs (map parts_in told.items) parts (e ∙ more) in
-        let p = subst (λ (z : List ℕ). IsWrittenSince w begun.items old (Err why) z) (with_last l.before l.last ∙ ap (flat_map (told_as form)) (sym l.whole))
-        (arrived_more begun.items old why (flat_map (told_as form) l.before) (told_as form l.last) (before l.before l.first)) in
-        subst (λ (z : W). IsWrittenSince w begun.items z written' (flat_map (told_as form) qs)) (sym same.1)
-        (subst (λ (z : Result (Unit {0}) NotRun). IsWrittenSince w begun.items old z (flat_map (told_as form) qs)) (sym same.0) p)
+        let c : length sent'.items ≡ length sent.items = subst (λ (z : Result (Unit {0}) NotRun). length sent'.items ≡ (if is_ok z then length sent.items + 1 else length sent.items)) same.0 count in
+        let p = subst (λ (z : List Question). AreWrittenSince w form begun.items old (Err why) (length sent.items) z) (sym l.whole)
+        (arrived_more begun.items old why (length sent.items) l.before l.last (before l.before l.first)) in
+        subst (λ (z : W). AreWrittenSince w form begun.items z written' (length sent'.items) qs) (sym same.1)
+        (subst (λ (z : Result (Unit {0}) NotRun). AreWrittenSince w form begun.items old z (length sent'.items) qs) (sym same.0)
+        (subst (λ (k : ℕ). AreWrittenSince w form begun.items old (Err why) k qs) (sym c) p))
 
   -- nothing was written of no questions
-  pub none_written : (form : Form) (begun : Log W) (now : W) (told : Log Parts) → begun.items ≡ now ∷ [] → told.items ≡ [] → AreOut w form begun now (Ok tt) told
-  none_written form begun now told first none [] e =
-      subst (λ (z : List W). IsWrittenSince w z now (Ok tt) []) (sym first) (refl, (refl, Appends-nil (w.written now)))
-  none_written form begun now told first none (q ∷ qs) e =
+  pub none_written : (form : Form) (begun : Log W) (now : W) (sent : Log ℕ) (told : Log Parts) → begun.items ≡ now ∷ [] → sent.items ≡ [] → told.items ≡ [] → AreOut w form begun now (Ok tt) sent told
+  none_written form begun now sent told first unsent none [] e =
+      subst (λ (z : List W). AreWrittenSince w form z now (Ok tt) (length sent.items) []) (sym first) (refl, (ap (λ (z : List ℕ). length z) unsent, (refl, Appends-nil (w.written now))))
+  none_written form begun now sent told first unsent none (q ∷ qs) e =
       let c : map (parts_of form) (q ∷ qs) ≡ [] = e ∙ ap (map parts_in) none in cc
 
   -- a judge that was told these
@@ -150,15 +182,15 @@ module _ {W F : Type 0} (w : Writes W F) where
     pub told_name : name' ≡ name
     told_name = ap (λ (z : Asked W). z.name) all
 
-    pub all_arrived : (first now : W) (b : Log W) (written : Result (Unit {0}) NotRun) (t : Log Parts) (f : Form) → begun ≡ first ∷ [] → told ≡ [] → b.items ≡ begun'
-        → map parts_in t.items ≡ told' → form ≡ f → AreOut w form' b now written t → IsWritten w first now written (flat_map (told_as f) qs)
-    all_arrived first now b written t f starts none same is in_form wrote =
+    pub all_arrived : (first now : W) (b : Log W) (written : Result (Unit {0}) NotRun) (sent : Log ℕ) (t : Log Parts) (f : Form) → begun ≡ first ∷ [] → told ≡ [] → b.items ≡ begun'
+        → map parts_in t.items ≡ told' → form ≡ f → AreOut w form' b now written sent t → AreWritten w f first now written (length sent.items) qs
+    all_arrived first now b written sent t f starts none same is in_form wrote =
         let fs : form' ≡ f = ap (λ (z : Asked W). z.form) all ∙ in_form in
         let bs : b.items ≡ first ∷ [] = same ∙ (ap (λ (z : Asked W). z.was) all ∙ starts) in
         let ts : map parts_in t.items ≡ map (parts_of form') qs
         = is ∙ (ap (λ (z : Asked W). z.told) all ∙ (ap (λ (z : List _). z ++ map (parts_of form) qs) none ∙ ap (λ (z : Form). map (parts_of z) qs) (in_form ∙ sym fs))) in
-        subst (λ (z : Form). IsWritten w first now written (flat_map (told_as z) qs)) fs
-        (subst (λ (z : List W). IsWrittenSince w z now written (flat_map (told_as form') qs)) bs (wrote qs (sym ts)))
+        subst (λ (z : Form). AreWritten w z first now written (length sent.items) qs) fs
+        (subst (λ (z : List W). AreWrittenSince w form' z now written (length sent.items) qs) bs (wrote qs (sym ts)))
 
   -- what one question was, or a beginning of it
   pub torn : (old new : W) (text : List ℕ) → w.handle new ≡ w.handle old → w.failed new ≡ w.failed old + 1
@@ -179,16 +211,16 @@ pub is_status : (s : ℕ) (written : Result (Unit {0}) NotRun) → IsStatus (or_
 is_status s (Ok u) = refl
 is_status s (Err why) = tt
 
-handed : {W F : Type 0} (w : Writes W F) (out out' : W) (s : ℕ) (written : Result (Unit {0}) NotRun) (text : List ℕ) → IsWritten w out out' written text
-    → Hands w out out' (or_status s written) text
-handed w out out' s (Ok u) text p = p.1
-handed w out out' s (Err unrun.Memory) text p = (omega (arith, p.1.0), (added (w.written out) (w.written out'), p.1.1))
-handed w out out' s (Err unrun.Output) text p = (p.1.0, (added (w.written out) (w.written out'), p.1.1))
-handed w out out' s (Err why) text p = absurd p.1
+handed : {W F : Type 0} (w : Writes W F) (form : Form) (out out' : W) (s : ℕ) (written : Result (Unit {0}) NotRun) (n : ℕ) (asked : List Question) → AreWritten w form out out' written n asked
+    → Hands w form out out' (or_status s written) asked
+handed w form out out' s (Ok u) n asked p = p.1.1
+handed w form out out' s (Err unrun.Memory) n asked p = (n, p.1.1.0, p.1.1.1)
+handed w form out out' s (Err unrun.Output) n asked p = (p.1.0, (added (w.written out) (w.written out'), p.1.1))
+handed w form out out' s (Err why) n asked p = absurd p.1
 
-pub handed_as : {W F : Type 0} (w : Writes W F) (out out' : W) (s : ℕ) (written : Result (Unit {0}) NotRun) (result : Result ℕ NotRun) (text : List ℕ)
-    → result ≡ or_status s written → IsWritten w out out' written text → Hands w out out' result text
-handed_as w out out' s written result text e p = subst (λ (z : Result ℕ NotRun). Hands w out out' z text) (sym e) (handed w out out' s written text p)
+pub handed_as : {W F : Type 0} (w : Writes W F) (form : Form) (out out' : W) (s : ℕ) (written : Result (Unit {0}) NotRun) (n : ℕ) (result : Result ℕ NotRun) (asked : List Question)
+    → result ≡ or_status s written → AreWritten w form out out' written n asked → Hands w form out out' result asked
+handed_as w form out out' s written n result asked e p = subst (λ (z : Result ℕ NotRun). Hands w form out out' z asked) (sym e) (handed w form out out' s written n asked p)
 
 -- what is held of a question, with more that is so of its subject
 pub also_so : {T E S : Type 0} (r : Result T E) (P Q : S → List ℕ → Type 0) (F : S → Type 0) → OnOk r ((s : S) (b : List ℕ) → P s b → Q s b)
@@ -220,5 +252,6 @@ not_handed_on w out mid out' (Ok x) (Err y) text e s k n o h =
     torn w out out' text h (n ∙ ap (λ (z : ℕ). z + 1) s.0)
     (length text, subst (Appends (w.written out) (w.written out')) (sym (take-length text)) (kept (w.written out) (w.written mid) (w.written out') text k s.1))
 
-pub same_handle : {W F : Type 0} (w : Writes W F) (out out' : W) (written : Result (Unit {0}) NotRun) (text : List ℕ) → IsWritten w out out' written text → w.handle out' ≡ w.handle out
-same_handle w out out' written text p = p.0
+pub same_handle : {W F : Type 0} (w : Writes W F) (form : Form) (out out' : W) (written : Result (Unit {0}) NotRun) (n : ℕ) (asked : List Question) → AreWritten w form out out' written n asked
+    → w.handle out' ≡ w.handle out
+same_handle w form out out' written n asked p = p.0

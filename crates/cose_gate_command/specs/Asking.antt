@@ -1,10 +1,11 @@
 -- How cose-ask ends.
-use Rattle.std.specs.Prelude.{◌≡◌, ℕ, ◌+◌, List, [], flat_map, Option, None, Some, true, Result, Ok, Err}
+use Rattle.std.specs.Prelude.{◌≡◌, ℕ, ◌+◌, List, [], flat_map, take, Option, None, Some, true, Result, Ok, Err}
 use Rattle.std.specs.Io.KnownBytes.{Appends}
 use Rattle.ciborium_ll.specs.Device.{AppendsFront}
 use Rattle.ciborium_ll.specs.declared.read.Read.{Ghosts as Reads}
 use Rattle.ciborium_ll.specs.declared.write.Write.{Ghosts as Writes}
 use Rattle.cose_gate_core.specs.Findings.{Bounds}
+use Rattle.cose_gate_core.specs.Questions.{Question}
 use Rattle.cose_gate_program.specs.Beginning.{aad_of}
 use Rattle.cose_gate_program.specs.Lines.{line_of, lines_of}
 use Rattle.cose_gate_program.specs.Program.{Devices}
@@ -66,17 +67,21 @@ Sent w out out' (Ok x) text =
 Sent w out out' (Err e) text = (w.failed out' ≡ w.failed out + 1)
     × AppendsFront (w.written out) (w.written out') text
 
-abbrev pub Fails : {W F : Type 0} → Writes W F → W → W → NotRun → List ℕ → Type 0
-Fails w out out' unrun.Memory text = (w.failed out' ≡ w.failed out)
-    × AppendsFront (w.written out) (w.written out') text
-Fails w out out' unrun.Output text =
-    Sent {T = ℕ} {E = NotRun} w out out' (Err unrun.Output) text
-Fails w out out' why text = ⊥
+-- out of memory the texts of so many of these questions were written, the first ones; if the output
+-- failed, a beginning of the texts of all
+abbrev pub Fails : {W F : Type 0} → Writes W F → Form → W → W → NotRun → List Question → Type 0
+Fails w form out out' unrun.Memory asked = (n : ℕ) × (w.failed out' ≡ w.failed out)
+    × Appends (w.written out) (w.written out') (flat_map (told_as form) (take n asked))
+Fails w form out out' unrun.Output asked =
+    Sent {T = ℕ} {E = NotRun} w out out' (Err unrun.Output) (flat_map (told_as form) asked)
+Fails w form out out' why asked = ⊥
 
--- the text was written; or a beginning of it, and then the output failed or it was out of memory
-abbrev pub Hands : {T W F : Type 0} → Writes W F → W → W → Result T NotRun → List ℕ → Type 0
-Hands w out out' (Ok s) text = Sent {E = NotRun} w out out' (Ok s) text
-Hands w out out' (Err why) text = Fails w out out' why text
+-- the texts of these questions were written, or it fails so
+abbrev pub Hands : {T W F : Type 0} → Writes W F → Form → W → W → Result T NotRun → List Question
+    → Type 0
+Hands w form out out' (Ok s) asked =
+    Sent {E = NotRun} w out out' (Ok s) (flat_map (told_as form) asked)
+Hands w form out out' (Err why) asked = Fails w form out out' why asked
 
 -- the status of the run, unless its output wasn't written
 abbrev pub or_status : ℕ → Result (Unit {0}) NotRun → Result ℕ NotRun
@@ -99,7 +104,7 @@ abbrev pub Asked : {W F E G : Type 0} (w : Writes W F) (e : Writes E G) → Boun
     → Devices → Devices → W → W → E → E → Result ℕ NotRun → Type 0
 Asked w e limits form aad old new out out' err err' result = (status : ℕ)
     × IsStatus result status × RanTold limits (λ _. true) aad old new status
-    (λ asked. Hands w out out' result (flat_map (told_as form) asked))
+    (λ asked. Hands w form out out' result asked)
     (λ notices. Wrote e err err' (lines_if result notices))
 
 -- how cose-ask ends with these arguments: that, or it isn't run, and nothing was read, written or

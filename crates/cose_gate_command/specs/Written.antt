@@ -1,6 +1,6 @@
 -- What the judge of `cose-ask` has written of its questions.
-use Rattle.std.specs.Prelude.{◌≡◌, ◌+◌, ◌-◌, ℕ, List, [], ◌∷◌, map, flat_map, length, take, Option, Some, None, Result, Ok, Err}
-use Rattle.std.specs.Coded.{×_prop, →_prop, Π_prop, Unit-prop, Coded-set, coded_list, coded_ℕ}
+use Rattle.std.specs.Prelude.{◌≡◌, ◌+◌, ◌-◌, ◌≤◌, ℕ, List, [], ◌∷◌, map, flat_map, length, take, Option, Some, None, Result, Ok, Err}
+use Rattle.std.specs.Coded.{×_prop, →_prop, le_prop, Π_prop, Unit-prop, Coded-set, coded_list, coded_ℕ}
 use Rattle.std.specs.Io.KnownBytes.{Appends}
 use Rattle.ciborium_ll.specs.declared.log.Log.{Log}
 use Rattle.ciborium_ll.specs.declared.write.Write.{Ghosts as Writes}
@@ -26,36 +26,51 @@ abbrev pub Beginning : {W F : Type 0} → Writes W F → W → W → ℕ → Lis
 Beginning w old new failures text = (w.failed new ≡ w.failed old + failures)
     × Appends (w.written old) (w.written new) (take (added (w.written old) (w.written new)) text)
 
--- the same by why the text wasn't written whole
-abbrev pub HasBeginning : {W F : Type 0} → Writes W F → W → W → NotRun → List ℕ → Type 0
-HasBeginning w old new unrun.Memory text = Beginning w old new 0 text
-HasBeginning w old new unrun.Output text = Beginning w old new 1 text
-HasBeginning w old new why text = ⊥
-
--- the text was written, or a beginning of it
+-- a text was written; or nothing, out of memory; or a beginning of it, and the output failed
 abbrev pub HasText : {W F : Type 0} → Writes W F → W → W → Result (Unit {0}) NotRun → List ℕ
     → Type 0
 HasText w old new (Ok u) text =
     (w.failed new ≡ w.failed old) × Appends (w.written old) (w.written new) text
-HasText w old new (Err why) text = HasBeginning w old new why text
+HasText w old new (Err unrun.Memory) text =
+    (w.failed new ≡ w.failed old) × Appends (w.written old) (w.written new) []
+HasText w old new (Err unrun.Output) text = Beginning w old new 1 text
+HasText w old new (Err why) text = ⊥
 
 -- the same, and the writer is the same
 abbrev pub IsWritten : {W F : Type 0} → Writes W F → W → W → Result (Unit {0}) NotRun → List ℕ
     → Type 0
 IsWritten w old new written text = (w.handle new ≡ w.handle old) × HasText w old new written text
 
--- the same of the first of a log of a writer
-abbrev pub IsWrittenSince : {W F : Type 0} → Writes W F → List W → W → Result (Unit {0}) NotRun
-    → List ℕ → Type 0
-IsWrittenSince w [] new written text = Unit {0}
-IsWrittenSince w (old ∷ more) new written text = IsWritten w old new written text
+-- the texts of all questions were written; or out of memory those of the first n; or a beginning,
+-- and the output failed
+abbrev pub HasTexts : {W F : Type 0} → Writes W F → Form → W → W → Result (Unit {0}) NotRun → ℕ
+    → List Question → Type 0
+HasTexts w form old new (Ok u) n qs = (n ≡ length qs) × ((w.failed new ≡ w.failed old)
+    × Appends (w.written old) (w.written new) (flat_map (told_as form) qs))
+HasTexts w form old new (Err unrun.Memory) n qs = (n ≤ length qs) × ((w.failed new ≡ w.failed old)
+    × Appends (w.written old) (w.written new) (flat_map (told_as form) (take n qs)))
+HasTexts w form old new (Err unrun.Output) n qs =
+    Beginning w old new 1 (flat_map (told_as form) qs)
+HasTexts w form old new (Err why) n qs = ⊥
 
--- if this was told of questions, they were written since a writer was as in a log
+abbrev pub AreWritten : {W F : Type 0} → Writes W F → Form → W → W → Result (Unit {0}) NotRun → ℕ
+    → List Question → Type 0
+AreWritten w form old new written n qs =
+    (w.handle new ≡ w.handle old) × HasTexts w form old new written n qs
+
+-- the same of the first of a log of a writer
+abbrev pub AreWrittenSince : {W F : Type 0} → Writes W F → Form → List W → W
+    → Result (Unit {0}) NotRun → ℕ → List Question → Type 0
+AreWrittenSince w form [] new written n qs = Unit {0}
+AreWrittenSince w form (old ∷ more) new written n qs = AreWritten w form old new written n qs
+
+-- if this was told of questions, they were written since a writer was as in a log, and their number
+-- is that of another log
 abbrev pub AreOut : {W F : Type 0} → Writes W F → Form → Log W → W → Result (Unit {0}) NotRun
-    → Log Parts → Type 0
-AreOut w form first new written told = (qs : List Question)
+    → Log ℕ → Log Parts → Type 0
+AreOut w form first new written sent told = (qs : List Question)
     → map (parts_of form) qs ≡ map parts_in told.items
-    → IsWrittenSince w first.items new written (flat_map (told_as form) qs)
+    → AreWrittenSince w form first.items new written (length sent.items) qs
 
 -- each of these has one proof at most
 Appends-prop : (old new : Option (List ℕ)) (text : List ℕ) → IsProp (Appends old new text)
@@ -68,31 +83,31 @@ Beginning-prop : {W F : Type 0} (w : Writes W F) (old new : W) (n : ℕ) (text :
 Beginning-prop w old new n text =
     ×_prop (Coded-set coded_ℕ _ _) (Appends-prop (w.written old) (w.written new) _)
 
-HasBeginning-prop : {W F : Type 0} (w : Writes W F) (old new : W) (why : NotRun) (text : List ℕ)
-    → IsProp (HasBeginning w old new why text)
-HasBeginning-prop w old new unrun.Memory text = Beginning-prop w old new 0 text
-HasBeginning-prop w old new unrun.Output text = Beginning-prop w old new 1 text
-HasBeginning-prop w old new why text = λ p. absurd p
+HasTexts-prop : {W F : Type 0} (w : Writes W F) (form : Form) (old new : W)
+    (written : Result (Unit {0}) NotRun) (n : ℕ) (qs : List Question)
+    → IsProp (HasTexts w form old new written n qs)
+HasTexts-prop w form old new (Ok u) n qs =
+    ×_prop (Coded-set coded_ℕ _ _) (×_prop (Coded-set coded_ℕ _ _)
+    (Appends-prop (w.written old) (w.written new) _))
+HasTexts-prop w form old new (Err unrun.Memory) n qs =
+    ×_prop le_prop (×_prop (Coded-set coded_ℕ _ _)
+    (Appends-prop (w.written old) (w.written new) _))
+HasTexts-prop w form old new (Err unrun.Output) n qs = Beginning-prop w old new 1 _
+HasTexts-prop w form old new (Err why) n qs = λ p. absurd p
 
-HasText-prop : {W F : Type 0} (w : Writes W F) (old new : W) (written : Result (Unit {0}) NotRun)
-    (text : List ℕ) → IsProp (HasText w old new written text)
-HasText-prop w old new (Ok u) text =
-    ×_prop (Coded-set coded_ℕ _ _) (Appends-prop (w.written old) (w.written new) text)
-HasText-prop w old new (Err why) text = HasBeginning-prop w old new why text
-
-IsWrittenSince-prop : {W F : Type 0} (w : Writes W F) (first : List W) (new : W)
-    (written : Result (Unit {0}) NotRun) (text : List ℕ)
-    → IsProp (IsWrittenSince w first new written text)
-IsWrittenSince-prop w [] new written text = Unit-prop
-IsWrittenSince-prop w (old ∷ more) new written text =
-    ×_prop (Coded-set (coded_list coded_ℕ) _ _) (HasText-prop w old new written text)
+AreWrittenSince-prop : {W F : Type 0} (w : Writes W F) (form : Form) (first : List W) (new : W)
+    (written : Result (Unit {0}) NotRun) (n : ℕ) (qs : List Question)
+    → IsProp (AreWrittenSince w form first new written n qs)
+AreWrittenSince-prop w form [] new written n qs = Unit-prop
+AreWrittenSince-prop w form (old ∷ more) new written n qs =
+    ×_prop (Coded-set (coded_list coded_ℕ) _ _) (HasTexts-prop w form old new written n qs)
 
 pub AreOut-prop : {W F : Type 0} (w : Writes W F) (form : Form) (first : Log W) (new : W)
-    (written : Result (Unit {0}) NotRun) (told : Log Parts)
-    → IsProp (AreOut w form first new written told)
-AreOut-prop w form first new written told =
+    (written : Result (Unit {0}) NotRun) (sent : Log ℕ) (told : Log Parts)
+    → IsProp (AreOut w form first new written sent told)
+AreOut-prop w form first new written sent told =
     Π_prop (λ qs. →_prop
-    (IsWrittenSince-prop w first.items new written (flat_map (told_as form) qs)))
+    (AreWrittenSince-prop w form first.items new written (length sent.items) qs))
 
 -- questions on a writer that is lent: what the writer was at first, and what was told since
 pub record Asked (W : Type 0) : Type 0 where

@@ -1,5 +1,6 @@
 //! A judge that writes each question as it is asked.
 ghost use Rattle.std.specs.Prelude.{◌≡◌, ◌∷◌, ◌++◌, [], IfOk, OnErr, OnOk, map, string_bytes, true};
+ghost use Rattle.std.specs.Prelude.{◌+◌, if◌then◌else◌, length};
 ghost use Rattle.cose_gate_core.specs.Lent.{subject_of};
 ghost use Rattle.cose_gate_core.specs.Questions.{Question};
 ghost use Rattle.cose_gate_command.specs.Lines.{fields_in, parts_of, told_as};
@@ -49,7 +50,9 @@ pub(crate) struct QuestionWriter<'a, W: Write> {
     /// What was told of the questions, and what the writer was at first. It is in contracts alone.
     told: &'a mut Log<Parts>,
     was: Log<W>,
-    ghost sent: { AreOut W.Write form was out.now written told.now } by { AreOut-prop W.Write _ _ _ _ _ },
+    /// As many as were written.
+    sent: Log<usize>,
+    ghost are_out: { AreOut W.Write form was out.now written sent told.now } by { AreOut-prop W.Write _ _ _ _ _ _ },
 }
 
 impl<'a, W: Write> QuestionWriter<'a, W> {
@@ -77,6 +80,7 @@ impl<'a, W: Write> QuestionWriter<'a, W> {
             written: Ok(()),
             told,
             was,
+            sent: Log::new(),
         }
     }
 }
@@ -88,6 +92,16 @@ fn fields_of(alloc: Global, form: Form, about: &About) -> Result<String, AllocEr
     match form {
         Form::Fields => key_fields(alloc, about),
         Form::Records | Form::Lines => Ok(String::new(alloc)),
+    }
+}
+
+/// Counts one more, if there is one. It does nothing at run time.
+fn count(sent: &mut Log<usize>, is_one: bool)
+    ensures { length sent.new.items
+        ≡ (if is_one then length sent.old.items + 1 else length sent.old.items) }
+{
+    if is_one {
+        *sent = sent.and(&0);
     }
 }
 
@@ -160,6 +174,7 @@ impl<'a, W: Write> Judge for QuestionWriter<'a, W> {
         let record = begun.held.record(alloc, signature);
         let parts = Parts::new(fields, &begun.held, signature);
         self.written = write_next(written, form, fields, record, self.out);
+        count(&mut self.sent, self.written.is_ok());
         *self.told = self.told.and(&parts);
         true
     }

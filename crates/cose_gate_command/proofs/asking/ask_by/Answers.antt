@@ -28,9 +28,9 @@ returns-clause-ran g c =
           (λ qs asked.
           let name : w.out.ghost_name ≡ _ = told_name g.W.Write v.out.ghost_name w.out.ghost_name v.was.items w.was.items v.form w.form
           (map parts_in v.told.now.items) (map parts_in w.told.now.items) qs asked ∙ c.new-writer.ensures.kept in
-          handed_as g.W.Write _ _ status w.written end.result _ end.ensures.status
+          handed_as g.W.Write _ _ _ status w.written _ end.result _ end.ensures.status
           (all_arrived g.W.Write v.out.ghost_name w.out.ghost_name v.was.items w.was.items v.form w.form (map parts_in v.told.now.items) (map parts_in w.told.now.items) qs asked
-          _ _ w.was w.written w.told.now _ c.new-writer.ensures.was (ap (map parts_in) c.new-writer.ensures.told) refl refl c.new-writer.ensures.form (search (rules, w.sent))))
+          _ _ w.was w.written w.sent w.told.now _ c.new-writer.ensures.was (ap (map parts_in) c.new-writer.ensures.told) refl refl c.new-writer.ensures.form (search (rules, w.are_out))))
           (λ ns n held. last_written g.E.Write _ _ _ (is_ok end.result) end.result _ (ns ++ n ∷ []) refl held end.ensures.lines),
     )
 
@@ -42,6 +42,6 @@ returns-clause-lent g c =
     let qs = asked_in (λ (q : Question). true) c.args.aad.now ran.run in
     let name : w.out.ghost_name ≡ _ = told_name g.W.Write v.out.ghost_name w.out.ghost_name v.was.items w.was.items v.form w.form
     (map parts_in v.told.now.items) (map parts_in w.told.now.items) qs ran.asked ∙ c.new-writer.ensures.kept in
-    same_handle g.W.Write _ _ w.written _
+    same_handle g.W.Write _ _ _ w.written _ _
     (all_arrived g.W.Write v.out.ghost_name w.out.ghost_name v.was.items w.was.items v.form w.form (map parts_in v.told.now.items) (map parts_in w.told.now.items) qs ran.asked
-    _ _ w.was w.written w.told.now c.args.form c.new-writer.ensures.was (ap (map parts_in) c.new-writer.ensures.told) refl refl c.new-writer.ensures.form (search (rules, w.sent)))
+    _ _ w.was w.written w.sent w.told.now c.args.form c.new-writer.ensures.was (ap (map parts_in) c.new-writer.ensures.told) refl refl c.new-writer.ensures.form (search (rules, w.are_out)))

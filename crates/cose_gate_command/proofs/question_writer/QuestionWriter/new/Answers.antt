@@ -4,5 +4,5 @@ use Rattle.cose_gate_command.proofs.question_writer.QuestionWriter.new.Goals as 
 
 pub invariant_of-result : goal.invariant_of-result
 invariant_of-result g c = record {
-  sent = none_written g.W.Write _ _ _ _ (c.and-was.ensures ∙ ap (λ (z : List _). z ++ c.args.out.now ∷ []) c.new-2.ensures) c.new.ensures;
+  are_out = none_written g.W.Write _ _ _ _ _ (c.and-was.ensures ∙ ap (λ (z : List _). z ++ c.args.out.now ∷ []) c.new-2.ensures) c.new-3.ensures c.new.ensures;
 }
