@@ -126,8 +126,7 @@ pub struct Streamed<E> {
 /// message is checked to its end.
 ///
 /// # Errors
-/// Those of `stream_check`. The code has written a beginning of the payload then, or nothing; no
-/// clause says so.
+/// Those of `stream_check`; then a beginning of the payload may be written.
 pub fn stream_check_into<R: Read, J: Judge, W: Write>(
     alloc: Global,
     limits: Limits,
