@@ -30,8 +30,7 @@ def refusals():
     variants = found(report, r"^    (\w+)(?:\(\w+\))?,$")[:8]
     order = re.findall(r"`(\w+)`", re.search(r"tested in the order (.*?)\.", text(report), re.S)[1])
     same("the refusals are", sorted(variants), report, sorted(order))
-    same("the names of refusals are", sorted(order), "crates/cose_gate_program/src/lines.rt",
-         sorted(found("crates/cose_gate_program/src/lines.rt", r'^        Refusal::\w+(?:\(_\))? => ": refused: (\w+)\\n"')))
+    same("the names of refusals are", sorted(order), report, sorted(found(report, r'^            Refusal::\w+(?:\(_\))? => "(\w+)"')))
     of_stream = found("crates/cose_stream/src/telling.rt", r'^        StreamRefusal::\w+ => "refused: (\w+)\\n"')
     same("the refusals are", order + [name for name in of_stream if name not in order], "docs/cose-gate.1",
          found("docs/cose-gate.1", r"^\.TP\n\.B ([A-Z]\w+)$"))

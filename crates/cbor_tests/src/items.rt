@@ -4,6 +4,7 @@
 mod arrays;
 mod building;
 mod devices;
+mod fronts;
 mod levels;
 mod round_trips;
 mod strings;

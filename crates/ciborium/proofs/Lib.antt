@@ -21,6 +21,7 @@ pub mod ExactSteps
 pub mod ExactTurns
 pub mod ToldLemmas
 pub mod FrameLemmas
+pub mod FrontLemmas
 pub mod BeginLemmas
 pub mod TurnLemmas
 pub mod FillLemmas

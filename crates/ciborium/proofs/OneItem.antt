@@ -55,7 +55,7 @@ any_parts : Inherited (λ (t : Tree). Unit {0}) (λ (ts : Trees). Unit {0})
 any_parts = record { of_array = λ ts p. tt; of_map = λ ps p. tt; of_tag = λ n t p. tt; of_items = λ t ts p. (tt, tt) }
 
 -- an item, from the one that is due in it
-level_one : (h : Header) (done : Trees) (limit : ℕ) (title inner rest : List ℕ) → Title title h → ReadsAll inner limit done → Due done rest h → HoldsOne rest → HoldsOne (title ++ (inner ++ rest))
+pub level_one : (h : Header) (done : Trees) (limit : ℕ) (title inner rest : List ℕ) → Title title h → ReadsAll inner limit done → Due done rest h → HoldsOne rest → HoldsOne (title ++ (inner ++ rest))
 level_one h done limit title inner rest t r due one u x y e p =
     let low : ℕ = limit + depth u + 1 in
     let w = child_there (λ (t : Tree). Unit {0}) (λ (ts : Trees). Unit {0}) any_parts (title ++ (inner ++ rest)) (inner ++ rest) rest y low h done u

@@ -1,10 +1,12 @@
 pub mod Building
 pub mod Damage
 pub mod Damaged
+pub mod ErrorNames
 pub mod Exact
 pub mod Fitting
 pub mod Frames
 pub mod Front
+pub mod Fronts
 pub mod Held
 pub mod Items
 pub mod Levels
@@ -26,6 +28,7 @@ pub use Rattle.ciborium_value.specs.View
 pub use Rattle.ciborium_typed.specs.Events
 pub use Rattle.ciborium_ll.specs.Copies
 pub use Rattle.ciborium_ll.specs.Seen
+pub use Rattle.ciborium_value.specs.KindNames
 pub use Rattle.ciborium_value.specs.Kinds
 pub use Rattle.ciborium_value.specs.Numbers
 pub use Rattle.ciborium_typed.specs.Back

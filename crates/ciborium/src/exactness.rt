@@ -30,6 +30,7 @@ impl Exactness {
     }
 
     /// Takes in the head that was read.
+    #[inline(always)]
     pub fn head<R: Read>(&mut self, decoder: &Decoder<R>)
         ensures { self.new.holds
             ≡ (self.old.holds && (shortest_of decoder.now && encoded (last_head decoder.now))) }

@@ -2,10 +2,12 @@
 ghost use Rattle.std.specs.Prelude.{◌≡◌, ◌≢◌, ◌<◌, ◌≤◌, ◌+◌, ◌*◌, ◌∷◌, ◌++◌, ℕ, Bool, true};
 ghost use Rattle.std.specs.Prelude.{false, List, [], None, Some, reverse, length};
 ghost use Rattle.std.specs.Prelude.{IfOk, IfErr, OnOk, OnErr, IfSome, IfNone};
-ghost use Rattle.std.specs.Prelude.{MatchOption, MatchBool, IsTrue, IsFalse};
+ghost use Rattle.std.specs.Prelude.{MatchOption, MatchBool, IsTrue, IsFalse, ◌⊎◌, ◌^◌};
 ghost use Rattle.ciborium_ll.specs.Seen.{Takes};
 ghost use Rattle.ciborium_ll.specs.Title.{Title, IsShortest};
+ghost use Rattle.ciborium_ll.specs.declared.hdr.Header.TheVariants.{Tag, Array};
 ghost use Rattle.ciborium_ll.specs.Views.{offset_of, waiting_of, seen, shortest_of, last_head};
+ghost use Rattle.ciborium_ll.specs.Views.{left_of};
 ghost use Rattle.ciborium_value.specs.View.{view};
 ghost use Rattle.ciborium.specs.declared.de.Error.TheVariants.{Memory};
 ghost use Rattle.ciborium.specs.declared.frames.Frame.TheVariants as code;
@@ -15,7 +17,8 @@ ghost use Rattle.ciborium.specs.Reading.{Closes};
 ghost use Rattle.ciborium_value.specs.Folding.{tagged};
 ghost use Rattle.ciborium.specs.Reading.{IsNext, is_full, fault_failures, IsFoldFault, IsLeaf};
 ghost use Rattle.ciborium.specs.Reading.{IsNotLong, ReadsAfterTitle};
-ghost use Rattle.ciborium.specs.Reading.{IsNoMemory, Leaves, OneAfterTitle};
+ghost use Rattle.ciborium.specs.Reading.{IsNoMemory, Leaves, OneAfterTitle, IfMemory, TagDamage};
+ghost use Rattle.ciborium.specs.Reading.{IfEnd};
 ghost use Rattle.ciborium.specs.Frames.{snoc, halves_of, HasHalf, IsStaged, IsClosed};
 ghost use Rattle.ciborium.specs.Frames.{IsHandedOver};
 ghost use Rattle.ciborium.specs.Exact.{encoded};
@@ -23,6 +26,8 @@ ghost use Rattle.ciborium.specs.Frames.{IsKept, CloseGives, ReadExact, HandFails
 ghost use Rattle.ciborium.specs.Frames.{AskGives, AskFails, Opening, BeginsItem, BeginFails};
 ghost use Rattle.ciborium.specs.Frames.{Holds, in_hand, rank, room_of, Falls, HalfIn};
 ghost use Rattle.ciborium.specs.Frames.{LeafPut, FillEnds, FillGives, FillHolds};
+ghost use Rattle.ciborium.specs.Front.{Reads, HoldsOne};
+ghost use Rattle.ciborium.specs.Fronts.{front_view, IsFour, IsMessage, FourDamage, FourOne};
 
 use crate::de::Error;
 use crate::exactness::Exactness;
@@ -660,6 +665,179 @@ pub fn read_item<R: Read>(
                     }
                 }
             }
+        }
+    }
+}
+
+/// What stands at the front of the bytes to come.
+#[derive(Drop)]
+pub enum Front {
+    /// An item.
+    Item(Value),
+    /// A tag of this number over an array of four items.
+    Four(u64, Value, Value, Value, Value),
+}
+
+/// The item of the head that was read, which begins at the place `at`.
+fn read_headed<R: Read>(
+    alloc: Global,
+    decoder: &mut Decoder<R>,
+    at: usize,
+    limit: usize,
+) -> Result<Value, Error<R::Error>>
+    requires fresh { waiting_of decoder.old ≡ None }
+    requires titled { (title : List ℕ) × Title title (last_head decoder.old) }
+    ensures ok { IfOk result (λ v. Takes (seen R.Read decoder.old) (seen R.Read decoder.new)
+        (ReadsAfterTitle (last_head decoder.old) limit (view v))) }
+    ensures err { IfErr result (NamesFaultAfterTitle R.ends (last_head decoder.old) at
+        (λ stop b f. Damage stop b limit f) (seen R.Read decoder.old) (seen R.Read decoder.new)) }
+    ensures leaves { Leaves R.ends (OneAfterTitle (last_head decoder.old)) result
+        (seen R.Read decoder.old) (seen R.Read decoder.new) }
+{
+    if decoder.major() == 2 {
+        let length = decoder.head_length();
+        let bytes = read_string(alloc, decoder, false, length, at)?;
+        return Ok(Value::Bytes(bytes));
+    }
+    let header = decoder.head();
+    let mut exact = Exactness { holds: false };
+    read_item(alloc, decoder, header, at, limit, &mut exact)
+}
+
+/// The next item.
+fn read_next<R: Read>(
+    alloc: Global,
+    decoder: &mut Decoder<R>,
+    limit: usize,
+) -> Result<Value, Error<R::Error>>
+    requires fresh { waiting_of decoder.old ≡ None }
+    ensures ok { IfOk result (λ v. Takes (seen R.Read decoder.old) (seen R.Read decoder.new)
+        (λ b. Reads b limit (view v))) }
+    ensures err { IfErr result (NamesFault R.ends (λ stop b f. Damage stop b limit f)
+        (seen R.Read decoder.old) (seen R.Read decoder.new)) }
+    ensures leaves { Leaves R.ends HoldsOne result
+        (seen R.Read decoder.old) (seen R.Read decoder.new) }
+{
+    let at = decoder.offset();
+    next_head(decoder)?;
+    read_headed(alloc, decoder, at, limit)
+}
+
+/// The next four items, which an array under a tag of this number holds.
+fn read_four<R: Read>(
+    alloc: Global,
+    decoder: &mut Decoder<R>,
+    n: u64,
+    limit: usize,
+) -> Result<Front, Error<R::Error>>
+    requires fresh { waiting_of decoder.old ≡ None }
+    requires message { (n ≡ 17) ⊎ (n ≡ 18) }
+    ensures ok { IfOk result (λ f. Takes (seen R.Read decoder.old) (seen R.Read decoder.new)
+        (IsFour n limit (front_view f))) }
+    ensures message { IfOk result IsMessage }
+    ensures err { IfErr result (NamesFault R.ends (λ stop b f. FourDamage limit stop b f)
+        (seen R.Read decoder.old) (seen R.Read decoder.new)) }
+    ensures leaves { Leaves R.ends (FourOne limit) result
+        (seen R.Read decoder.old) (seen R.Read decoder.new) }
+{
+    let first = read_next(alloc, decoder, limit)?;
+    let second = read_next(alloc, decoder, limit)?;
+    let third = read_next(alloc, decoder, limit)?;
+    let fourth = read_next(alloc, decoder, limit)?;
+    Ok(Front::Four(n, first, second, third, fourth))
+}
+
+/// Whether the head that was read is that of an array of the definite length four.
+fn is_four<R: Read>(decoder: &Decoder<R>) -> bool
+    ensures { IsTrue result → last_head decoder.now ≡ Array (Some 4) }
+{
+    if decoder.major() != 4 {
+        return false;
+    }
+    match decoder.head_length() {
+        Some(n) => n == 4,
+        None => false,
+    }
+}
+
+/// The number of the tag whose head was read, if it is 17 or 18 and two levels may open.
+fn message_tag<R: Read>(decoder: &Decoder<R>, limit: usize) -> Option<u64>
+    ensures { IfSome result (λ n. (last_head decoder.now ≡ Tag n) × (2 ≤ limit)
+        × ((n ≡ 17) ⊎ (n ≡ 18))) }
+{
+    if limit < 2 || decoder.major() != 6 {
+        return None;
+    }
+    let n = decoder.head_number();
+    if n == 17 || n == 18 {
+        return Some(n);
+    }
+    None
+}
+
+/// What follows the title of a tag of this number.
+fn read_tagged<R: Read>(
+    alloc: Global,
+    decoder: &mut Decoder<R>,
+    n: u64,
+    limit: usize,
+) -> Result<Front, Error<R::Error>>
+    requires fresh { waiting_of decoder.old ≡ None }
+    requires two { 2 ≤ limit }
+    requires message { (n ≡ 17) ⊎ (n ≡ 18) }
+    ensures ok { IfOk result (λ f. Takes (seen R.Read decoder.old) (seen R.Read decoder.new)
+        (ReadsAfterTitle (Tag n) limit (front_view f))) }
+    ensures message { IfOk result IsMessage }
+    ensures err { IfErr result (NamesFault R.ends (TagDamage n limit)
+        (seen R.Read decoder.old) (seen R.Read decoder.new)) }
+    ensures leaves { Leaves R.ends HoldsOne result
+        (seen R.Read decoder.old) (seen R.Read decoder.new) }
+{
+    let at = decoder.offset();
+    next_head(decoder)?;
+    if is_four(decoder) {
+        return read_four(alloc, decoder, n, limit - 2);
+    }
+    let content = read_headed(alloc, decoder, at, limit - 1)?;
+    let mut exact = Exactness { holds: false };
+    let whole = tag_value(alloc, n, content, &mut exact)?;
+    Ok(Front::Item(whole))
+}
+
+/// As `from_decoder`, if no header waits, but a tag 17 or 18 over an array of the definite length
+/// four may be given as its four elements. Reading is a loop, but dropping, copying and comparing a
+/// value recurse over its levels: the stack has to bear the limit.
+///
+/// # Errors
+/// As those of `from_decoder`, whose limit this is.
+pub fn read_front<R: Read>(
+    alloc: Global,
+    decoder: &mut Decoder<R>,
+    limit: usize,
+) -> Result<Front, Error<R::Error>>
+    requires fresh { waiting_of decoder.old ≡ None }
+    ensures ok { IfOk result (λ f. Takes (seen R.Read decoder.old) (seen R.Read decoder.new)
+        (λ b. Reads b limit (front_view f))) }
+    ensures message { IfOk result IsMessage }
+    ensures err { IfErr result (NamesFault R.ends (λ stop b f. Damage stop b limit f)
+        (seen R.Read decoder.old) (seen R.Read decoder.new)) }
+    ensures nothing { left_of R.left decoder.old ≡ Some [] → IfErr result IsNoMemory }
+    ensures some { left_of R.left decoder.old ≡ Some [] → OnOk result ⊥ }
+    ensures ended { left_of R.left decoder.old ≡ Some []
+        → IfErr result (IfEnd R.ends (left_of R.left decoder.new ≡ Some [])) }
+    ensures stops { IfErr result (TakesSome (seen R.Read decoder.old) (seen R.Read decoder.new)) }
+    ensures one { IfErr result (IfMemory (Takes (seen R.Read decoder.old)
+        (seen R.Read decoder.new) HoldsOne)) }
+    ensures steady { Steady R.ends result (seen R.Read decoder.old) (seen R.Read decoder.new) }
+    ensures fits { offset_of decoder.new < 2 ^ 64 }
+{
+    let at = decoder.offset();
+    next_head(decoder)?;
+    match message_tag(decoder, limit) {
+        Some(n) => read_tagged(alloc, decoder, n, limit),
+        None => {
+            let value = read_headed(alloc, decoder, at, limit)?;
+            Ok(Front::Item(value))
         }
     }
 }

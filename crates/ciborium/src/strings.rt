@@ -57,6 +57,9 @@ pub fn next_head<R: Read>(decoder: &mut Decoder<R>) -> Result<(), Error<R::Error
         (λ b. Title b (last_head decoder.new)
         × IsShortest (shortest_of decoder.new) b (last_head decoder.new))) }
     ensures memory { IfErr result IsNoMemory }
+    ensures nothing { left_of R.left decoder.old ≡ Some [] → OnOk result ⊥ }
+    ensures ended { left_of R.left decoder.old ≡ Some []
+        → IfErr result (IfEnd R.ends (left_of R.left decoder.new ≡ Some [])) }
     ensures err { IfErr result (NamesFault R.ends TitleDamage
         (seen R.Read decoder.old) (seen R.Read decoder.new)) }
     ensures stops { IfErr result (TakesSome (seen R.Read decoder.old) (seen R.Read decoder.new)) }

@@ -2,6 +2,7 @@ pub mod Canonical
 pub mod Encoding
 pub mod Facts
 pub mod Folding
+pub mod KindNames
 pub mod Kinds
 pub mod Numbers
 pub mod Rows

@@ -107,7 +107,7 @@ pub extern "C" fn cose_gate_stream_check(
     check_message(alloc, nesting, layers, keys, aad, message)
 }
 
-/// The question about the COSE_Sign1 or COSE_Mac0 at the front of `message`, which is read in place:
+/// The question about the COSE_Sign1 or COSE_Mac0 at the front of `message`, read in place:
 /// the record that `cose_gate_ask` writes for it, without the payload, and where the payload is in
 /// `message`. With `head` bytes of `question`, then the payload, and then the rest of `question` it
 /// is that record; the covered bytes end with the payload (RFC 9052, sections 4.4 and 6.3). What

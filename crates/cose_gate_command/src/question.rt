@@ -47,13 +47,13 @@ fn kind_of(tag: u64) -> Option<MessageKind>
 }
 
 /// The question of a whole record; `None` if the bytes are not exactly one record.
-pub(crate) fn read_question(record: &[u8]) -> Option<Question<'_>>
+pub(crate) fn read_question(bytes: &[u8]) -> Option<Question<'_>>
     ensures { MatchOption result
         ((kind : MessageKind) (texts : List (List ℕ)) → length texts ≡ 7
-        → record.now ≡ framed (key_with kind texts) → ⊥)
-        (λ q. record.now ≡ framed (key_with q.kind (texts_read q))) }
+        → bytes.now ≡ framed (key_with kind texts) → ⊥)
+        (λ q. bytes.now ≡ framed (key_with q.kind (texts_read q))) }
 {
-    let (key, rest) = split_first(record)?;
+    let (key, rest) = split_first(bytes)?;
     if rest.is_empty() { read_key(key) } else { None }
 }
 

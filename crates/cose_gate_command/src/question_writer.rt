@@ -105,21 +105,22 @@ fn count(sent: &mut Log<usize>, is_one: bool)
     }
 }
 
-/// Writes a question by its record, and hands it on, if all before it were written.
+/// Writes a question by its record, if that was made, and hands it on, if all before it were
+/// written.
 fn write_next<W: Write>(
     written: Result<(), NotRun>,
     form: Form,
     fields: &[u8],
-    record: Result<Vec<u8>, AllocError>,
+    made: Result<Vec<u8>, AllocError>,
     out: &mut W,
 ) -> Result<(), NotRun>
     ensures before { OnErr written ((result ≡ written) × (out.new ≡ out.old)) }
     ensures next { OnOk written ((q : Question)
-        → IfOk «record» (λ r. (fields.now, r.items) ≡ parts_of form q)
+        → IfOk made (λ r. (fields.now, r.items) ≡ parts_of form q)
         → IsWritten W.Write out.old out.new result (told_as form q)) }
 {
     written?;
-    let Ok(record) = record else {
+    let Ok(record) = made else {
         return Err(NotRun::Memory);
     };
     if write_question(form, fields, &record, out).is_err() {

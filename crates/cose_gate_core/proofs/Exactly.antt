@@ -107,3 +107,11 @@ found_as terms m k u b exact through r e has taken told bar =
     let h : IsTaken terms b (tag (tag_of m) u) exact = subst (λ (j : MessageKind). IsTaken terms b (tag (number_of j) u) exact) (sym e) taken in
     subst (λ (j : MessageKind). MatchOption r (Finds l b (tag (number_of j) u) (judged m)) (IsRefused l b (tag (number_of j) u))) e
     (bar (told_of l (nesting_of terms.limits) b u m terms.strict exact through has h.0 h.1 told))
+
+-- the same of a gate that isn't strict
+pub found_plain : (terms : Terms) (m : MessageFields) (k : MessageKind) (u : Tree) (b : List ℕ) (r : Option Refusal) → terms.strict ≡ false → kind_of m ≡ k → HasMessage (limits_of terms) u m
+    → Reads b (nesting_of terms.limits) (tag (number_of k) u)
+    → (IsTold (limits_of terms) b m true → MatchOption r (Finds (limits_of terms) b (tag (tag_of m) u) (judged m)) (IsRefused (limits_of terms) b (tag (tag_of m) u)))
+    → MatchOption r (Finds (limits_of terms) b (tag (number_of k) u) (judged m)) (IsRefused (limits_of terms) b (tag (number_of k) u))
+found_plain terms m k u b r plain e has reads bar =
+    found_as terms m k u b false true r e has (reads, λ s. (let no : false ≡ true = sym plain ∙ s in cc)) (λ s. (let no : false ≡ true = sym plain ∙ s in cc)) bar

@@ -16,8 +16,8 @@ use Rattle.cose_gate_core.specs.declared.report.Verdict.{Verdict}
 use Rattle.cose_gate_core.specs.Questions.{Question, questions}
 use Rattle.cose_gate_core.specs.Asked.{first_no, folded_over}
 use Rattle.cose_gate_core.specs.Findings.{Finding, judged, barred, excluded, not_tagged, encrypted, other_tag, shape, detached, no_signature, Bounds, Finds}
-use Rattle.cose_gate_core.specs.Run.{Step, Steps, IsVerdict, judged_by, has_passed, passes, asked_of, written_of, questions_of, output_of, entries_of, passed_count, refused_count}
-use Rattle.cose_gate_core.specs.Outcome.{Rules, GateState, Made, Reached}
+use Rattle.cose_gate_core.specs.Run.{Step, Steps, IsVerdict, judged_by, has_passed, passes, asked_of, written_of, questions_of, output_of, entries_of}
+use Rattle.cose_gate_core.specs.Outcome.{Rules, GateState, Reached}
 
 -- lists
 pub folded_append : {S X : Type 0} (step : S → X → S) (s : S) (xs ys : List X) → folded_over step s (xs ++ ys) ≡ folded_over step (folded_over step s xs) ys

@@ -10,6 +10,7 @@ pub mod Output
 pub mod Passing
 pub mod Put
 pub mod Questions
+pub mod ReasonNames
 pub mod Received
 pub mod Recorded
 pub mod Run

@@ -2,9 +2,9 @@
 use Rattle.std.specs.Prelude.{◌≡◌, ◌≢◌, ℕ, ◌+◌, ◌^◌, ◌<◌, ◌≤◌, ◌⊎◌, List, [], ◌∷◌, ◌++◌, length, map, Option, Some, None, Bool, true, IsTrue, Result, Ok, Err, if◌then◌else◌}
 use Rattle.std.specs.Io.KnownBytes.{Appends}
 use Rattle.ciborium_ll.specs.Reading.{Moves}
-use Rattle.ciborium_value.specs.declared.value.Value.{Value}
-use Rattle.ciborium_value.specs.View.{view}
 use Rattle.ciborium.specs.Front.{HoldsOne}
+use Rattle.ciborium.specs.Fronts.{front_view}
+use Rattle.ciborium.specs.declared.frames.Front.{Front}
 use Rattle.ciborium.specs.Items.{SequenceWithin}
 use Rattle.ciborium.specs.Damage.{end, deep, syntax, semantic, Damage}
 use Rattle.ciborium.specs.Reading.{IfKnown, IfEnd, IsNoMemory, SomeTaken}
@@ -71,11 +71,11 @@ IsFaultOf ends n stop more de.TooLong = 2 ^ 64 ≤ stop + 4096
 
 -- what reading the next item gives: it was taken, or no byte was left, and the reader tells so
 -- if it tells what is to come
-abbrev pub IsNext : Terms → Option (List ℕ) → Option (List ℕ) → ℕ → ℕ → Option (Value × Bool)
+abbrev pub IsNext : Terms → Option (List ℕ) → Option (List ℕ) → ℕ → ℕ → Option (Front × Bool)
     → Type 0
 IsNext terms left left' at at' None = IfKnown left (λ b. (b ≡ []) × (left' ≡ Some [])) × (at' ≡ at)
 IsNext terms left left' at at' (Some r) =
-    Moves left left' at at' (λ b. IsTaken terms b (view r.0) r.1)
+    Moves left left' at at' (λ b. IsTaken terms b (front_view r.0) r.1)
 
 -- what reading the next item ends with, at the offset at' then: a fault of the bytes that were to
 -- come, if they are known, or being out of memory. Some of these bytes were taken, or none, but

@@ -1,8 +1,10 @@
 -- What a gate goes by.
-use Rattle.std.specs.Prelude.{◌≡◌, ℕ, List, Bool, true, MatchBool}
+use Rattle.std.specs.Prelude.{◌≡◌, ◌⊎◌, ⊤, ℕ, List, Bool, true, false, MatchBool}
 use Rattle.ciborium_value.specs.Tree.{Tree}
 use Rattle.ciborium_value.specs.Encoding.{enc}
 use Rattle.ciborium.specs.Front.{Reads}
+use Rattle.ciborium.specs.declared.frames.Front.{Front}
+use Rattle.ciborium.specs.declared.frames.Front.TheVariants as front
 use Rattle.coset_labels.specs.Limits.{nesting_of, layers_of}
 use Rattle.coset_labels.specs.declared.limits.Limits.{Limits}
 use Rattle.cose_gate_core.specs.Findings.{Bounds, excluded_by}
@@ -25,3 +27,8 @@ abbrev pub IsTaken : Terms → List ℕ → Tree → Bool → Type 0
 IsTaken terms b t exact =
     Reads b (nesting_of terms.limits) t
     × (terms.strict ≡ true → MatchBool exact (b ≡ enc t) (b ≡ enc t → ⊥))
+
+-- only a gate that isn't strict takes the four elements of a message alone
+abbrev pub IsFrontFor : Terms → Front → Type 0
+IsFrontFor terms (front.Item v) = ⊤
+IsFrontFor terms (front.Four n a b c d) = (terms.strict ≡ false) × ((n ≡ 17) ⊎ (n ≡ 18))

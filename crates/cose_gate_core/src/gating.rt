@@ -3,6 +3,7 @@ ghost use Rattle.std.specs.Prelude.{◌≡◌, ◌≢◌, ◌+◌, ◌<◌, ◌^
 ghost use Rattle.std.specs.Prelude.{◌≤◌, IsOk, IfOk, IfErr, IfSome, OnOk, true, not, if◌then◌else◌};
 ghost use Rattle.ciborium.specs.Damage.{Damage};
 ghost use Rattle.ciborium.specs.Front.{HoldsOne};
+ghost use Rattle.ciborium.specs.Fronts.{front_view};
 ghost use Rattle.ciborium.specs.Reading.{NamesFault, Steady, TakesSome, IsNoMemory, IfEnd};
 ghost use Rattle.ciborium.specs.Reading.{IfMemory, IsFar};
 ghost use Rattle.ciborium_ll.specs.Seen.{Takes};
@@ -13,19 +14,19 @@ ghost use Rattle.cose_gate_core.specs.Calls.{rules_by, sight_of};
 ghost use Rattle.cose_gate_core.specs.Outcome.{Answers, IsNext, IsReadFault, IfTooLong, GoesOn};
 ghost use Rattle.cose_gate_core.specs.Outcome.{reader_failures, writer_failures};
 ghost use Rattle.cose_gate_core.specs.Passing.{at_end};
+ghost use Rattle.cose_gate_core.specs.ReasonNames.{fault_name};
 ghost use Rattle.cose_gate_core.specs.Run.{has_passed};
-ghost use Rattle.cose_gate_core.specs.Terms.{limits_of, IsTaken};
+ghost use Rattle.cose_gate_core.specs.Terms.{limits_of, IsTaken, IsFrontFor};
 ghost use Rattle.cose_gate_core.specs.declared.gating.GateFault.TheVariants.{Memory};
 
 use crate::judge::Judge;
-use crate::passing::{ItemFault, pass};
+use crate::passing::{ItemFault, pass_front};
 use crate::report::{Entry, Report, Verdict};
 use crate::terms::Terms;
-use ciborium::{Value, de};
+use ciborium::{Front, Value, de, read_front};
 use ciborium_ll::{Decoder, Read, Write};
 use std::alloc::{AllocError, Global};
 use std::fmt;
-use thiserror::Error;
 
 /// How many items passed, and how many were refused.
 #[derive(Debug, Clone, Copy, PartialEq, Eq)]
@@ -37,19 +38,40 @@ pub struct Counts {
 }
 
 /// What stopped the gate. Its text is `decode: ` and the fault's text, `write` or `memory`.
-#[derive(Debug, PartialEq, Eq, Drop, Error)]
-#[error_bound(E: fmt::Display)]
+#[derive(Debug, PartialEq, Eq, Drop)]
 pub enum GateFault<E> {
     /// No readable item begins here, or the reader failed. It never holds `Memory`.
-    #[error("decode: {0}")]
     Decode(de::Error<E>),
     /// The writer failed; its own being out of memory is such a fault too.
-    #[error("write")]
     Write,
     /// Out of memory, also the judge's or the report's.
-    #[error("memory")]
     Memory,
 }
+
+impl<E> GateFault<E> {
+    /// Its name, with which its text begins.
+    pub fn name(&self) -> &'static str
+        ensures { result.now ≡ fault_name self.now }
+    {
+        match self {
+            GateFault::Decode(_) => "decode",
+            GateFault::Write => "write",
+            GateFault::Memory => "memory",
+        }
+    }
+}
+
+impl<E: fmt::Display> fmt::Display for GateFault<E> {
+    fn fmt<W: fmt::Write>(&self, f: &mut fmt::Formatter<W>) -> fmt::Result {
+        f.write_str(self.name())?;
+        match self {
+            GateFault::Decode(error) => write!(f, ": {error}"),
+            _ => Ok(()),
+        }
+    }
+}
+
+impl<E: fmt::Debug + fmt::Display + Drop> std::error::Error for GateFault<E> {}
 
 /// No item was read.
 impl<E> From<de::Error<E>> for GateFault<E> {
@@ -130,16 +152,48 @@ fn read_item<R: Read>(
     de::from_decoder_by(alloc, decoder, nesting, terms.strict)
 }
 
-/// The next item, or `None` if no byte is left.
-fn next_item<R: Read>(
+/// As `read_item`, but a gate that isn't strict may get the four elements of a message alone.
+fn front_of<R: Read>(
     alloc: Global,
     terms: Terms,
     decoder: &mut Decoder<R>,
-) -> Result<Option<(Value, bool)>, GateFault<R::Error>>
+) -> Result<(Front, bool), de::Error<R::Error>>
+    requires { terms.strict ≡ true → waiting_of decoder.old ≡ None }
+    ensures ok { IfOk result (λ r. Takes (seen R.Read decoder.old) (seen R.Read decoder.new)
+        (λ b. IsTaken terms b (front_view r.0) r.1)) }
+    ensures fit { IfOk result (λ r. IsFrontFor terms r.0) }
+    ensures err { IfErr result (NamesFault R.ends
+        (λ stop b f. Damage stop b (nesting_of terms.limits) f)
+        (seen R.Read decoder.old) (seen R.Read decoder.new)) }
+    ensures nothing { left_of R.left decoder.old ≡ Some [] → IfErr result IsNoMemory }
+    ensures some { left_of R.left decoder.old ≡ Some [] → OnOk result ⊥ }
+    ensures ended { left_of R.left decoder.old ≡ Some []
+        → IfErr result (IfEnd R.ends (left_of R.left decoder.new ≡ Some [])) }
+    ensures stops { IfErr result (TakesSome (seen R.Read decoder.old) (seen R.Read decoder.new)) }
+    ensures one { IfErr result (IfMemory (Takes (seen R.Read decoder.old)
+        (seen R.Read decoder.new) HoldsOne)) }
+    ensures steady { Steady R.ends result (seen R.Read decoder.old) (seen R.Read decoder.new) }
+    ensures fits { offset_of decoder.new < 2 ^ 64 }
+{
+    if terms.strict || decoder.is_waiting() {
+        let (value, exact) = read_item(alloc, terms, decoder)?;
+        return Ok((Front::Item(value), exact));
+    }
+    let front = read_front(alloc, decoder, terms.limits.nesting())?;
+    Ok((front, false))
+}
+
+/// The next item, or `None` if no byte is left.
+fn next_front<R: Read>(
+    alloc: Global,
+    terms: Terms,
+    decoder: &mut Decoder<R>,
+) -> Result<Option<(Front, bool)>, GateFault<R::Error>>
     requires { terms.strict ≡ true → waiting_of decoder.old ≡ None }
     ensures next { IfOk result (IsNext terms
         (left_of R.left decoder.old) (left_of R.left decoder.new)
         (offset_of decoder.old) (offset_of decoder.new)) }
+    ensures fit { IfOk result (λ next. IfSome next (λ f. IsFrontFor terms f.0)) }
     ensures err { IfErr result (IsReadFault R.ends (nesting_of terms.limits)
         (left_of R.left decoder.old) (left_of R.left decoder.new)
         (offset_of decoder.old) (offset_of decoder.new)) }
@@ -155,8 +209,8 @@ fn next_item<R: Read>(
     ensures fresh { waiting_of decoder.new ≡ None }
 {
     let offset = decoder.offset();
-    match read_item(alloc, terms, decoder) {
-        Ok(item) => Ok(Some(item)),
+    match front_of(alloc, terms, decoder) {
+        Ok(front) => Ok(Some(front)),
         Err(error) if is_end::<R>(&error) && decoder.offset() == offset => Ok(None),
         Err(error) => Err(GateFault::from(error)),
     }
@@ -245,10 +299,10 @@ pub fn gate_next<R: Read, W: Write, P: Report, J: Judge>(
     ensures fresh { waiting_of decoder.new ≡ None }
 {
     let offset = decoder.offset();
-    let Some((value, exact)) = next_item(alloc, item.terms, decoder)? else {
+    let Some((front, exact)) = next_front(alloc, item.terms, decoder)? else {
         return Ok(None);
     };
-    let verdict = pass(alloc, item.terms, exact, value, out, item.aad, judge)?;
+    let verdict = pass_front(alloc, item, exact, front, out, judge)?;
     let counts = counted(item.counts, verdict);
     report.note(&entry_of(counts, offset, verdict))?;
     Ok(Some(counts))

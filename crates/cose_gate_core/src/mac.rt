@@ -1,4 +1,5 @@
 //! A COSE_Mac, as it is judged.
+ghost use Rattle.coset_maced.specs.Fields.{no_mac};
 ghost use Rattle.coset_maced.specs.View.{mac_view};
 ghost use Rattle.cose_gate_core.specs.Questions.{mac};
 
@@ -20,6 +21,8 @@ impl Message for CoseMac {
     ghost kind = { Mac };
 
     ghost message = { λ m. mac (mac_view m) };
+
+    ghost nothing = { mac no_mac };
 
     fn empty(alloc: Global) -> CoseMac {
         CoseMac::new(alloc)

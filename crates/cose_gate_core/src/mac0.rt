@@ -1,17 +1,19 @@
 //! A COSE_Mac0, as it is judged.
+ghost use Rattle.coset_maced.specs.Fields.{no_mac0};
 ghost use Rattle.coset_maced.specs.View.{mac0_view};
 ghost use Rattle.cose_gate_core.specs.Questions.{mac0};
 
 use crate::about::{About, MessageKind};
 use crate::asking::ask_alone;
 use crate::judge::Judge;
-use crate::message::Message;
+use crate::message::{Four, Message};
 use crate::terms::Terms;
 use ciborium::Value;
 use ciborium::ser::Sink;
 use coset_base::MacContext;
 use coset_labels::{AsWritten, CoseError};
 use coset_maced::{CoseMac0, put_tagged_mac0};
+use coset_recipients::PartValues;
 use std::alloc::{AllocError, Global};
 
 impl Message for CoseMac0 {
@@ -20,6 +22,8 @@ impl Message for CoseMac0 {
     ghost kind = { Mac0 };
 
     ghost message = { λ m. mac0 (mac0_view m) };
+
+    ghost nothing = { mac0 no_mac0 };
 
     fn empty(alloc: Global) -> CoseMac0 {
         CoseMac0::new(alloc)
@@ -54,5 +58,17 @@ impl Message for CoseMac0 {
 
     fn put<S: Sink>(&self, to: &mut S) -> Result<(), S::Error> {
         put_tagged_mac0(self, to)
+    }
+}
+
+impl Four for CoseMac0 {
+    fn read_four(
+        &mut self,
+        alloc: Global,
+        terms: Terms,
+        parts: PartValues,
+        last: Value,
+    ) -> Result<(), CoseError> {
+        self.fill_four(alloc, parts, last, terms.limits)
     }
 }

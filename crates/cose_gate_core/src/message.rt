@@ -3,6 +3,7 @@ ghost use Rattle.std.specs.Prelude.{◌≡◌, Some, None, MatchBool, MatchResul
 ghost use Rattle.ciborium_traits.specs.Events.{events, Puts, Stops};
 ghost use Rattle.ciborium_value.specs.View.{view};
 ghost use Rattle.coset_labels.specs.Faults.{OrMemory};
+ghost use Rattle.coset_recipients.specs.PartsView.{four_of};
 ghost use Rattle.cose_gate_core.specs.Asked.{asked, first_no, folded_over, ToldPart};
 ghost use Rattle.cose_gate_core.specs.Findings.{Bounds, HasMessage, WrongMessage, IsCarried};
 ghost use Rattle.cose_gate_core.specs.Findings.{IsUnsigned};
@@ -18,6 +19,7 @@ use crate::terms::Terms;
 use ciborium::Value;
 use ciborium::ser::Sink;
 use coset_labels::CoseError;
+use coset_recipients::PartValues;
 use std::alloc::{AllocError, Global};
 
 /// A message of a kind that is judged (RFC 9052, section 2).
@@ -28,8 +30,12 @@ pub trait Message: Drop + Sized {
     /// What it says.
     ghost message: { Self → MessageFields };
 
+    /// What one says that has no field.
+    ghost nothing: { MessageFields };
+
     /// A message with no field.
-    fn empty(alloc: Global) -> Self;
+    fn empty(alloc: Global) -> Self
+        ensures { message result ≡ nothing };
 
     /// Reads the content of the kind's tag into it, in place of its fields, within these limits.
     ///
@@ -86,4 +92,24 @@ pub trait Message: Drop + Sized {
             (events (tagged_put (message self.now))) to.new) }
         ensures err { OnErr result (Stops S.due S.torn to.old
             (events (tagged_put (message self.now))) to.new) };
+}
+
+/// A message whose content is an array of four elements.
+pub trait Four: Message {
+    /// As `read`, of the array of these parts and the last element, into one that has no field.
+    ///
+    /// # Errors
+    /// Those of `read`.
+    fn read_four(
+        &mut self,
+        alloc: Global,
+        terms: Terms,
+        parts: PartValues,
+        last: Value,
+    ) -> Result<(), CoseError>
+        requires { Self.message self.old ≡ Self.nothing }
+        ensures { MatchResult result
+            (λ _. (kind_of (Self.message self.new) ≡ Self.kind)
+            × HasMessage (limits_of terms) (four_of parts last) (Self.message self.new))
+            (λ e. OrMemory (WrongMessage (limits_of terms) Self.kind (four_of parts last)) e) };
 }

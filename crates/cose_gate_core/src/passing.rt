@@ -1,12 +1,16 @@
 //! One item on its way through the gate.
-ghost use Rattle.std.specs.Prelude.{◌≡◌, ◌≢◌, ℕ, ◌+◌, List, true, pos, Some, None};
+ghost use Rattle.std.specs.Prelude.{◌≡◌, ◌≢◌, ℕ, ◌+◌, List, true, false, pos, Some, None};
 ghost use Rattle.std.specs.Prelude.{MatchBool, MatchOption, IfOk, IfErr, OnOk, OnErr};
 ghost use Rattle.std.specs.Io.KnownBytes.{Appends};
+ghost use Rattle.ciborium.specs.Front.{Reads};
+ghost use Rattle.ciborium.specs.Fronts.{front_view};
 ghost use Rattle.ciborium_value.specs.Encoding.{Fits, enc};
 ghost use Rattle.ciborium_value.specs.Tree.{Tree, tag};
 ghost use Rattle.ciborium_value.specs.View.{view};
 ghost use Rattle.cose_iana.specs.Tags.{cbor_tags};
+ghost use Rattle.coset_labels.specs.Limits.{nesting_of};
 ghost use Rattle.coset_labels.specs.declared.error.CoseError.TheVariants.{Memory};
+ghost use Rattle.coset_recipients.specs.PartsView.{four_of};
 ghost use Rattle.cose_gate_core.specs.Calls.{item_rules, item_sight};
 ghost use Rattle.cose_gate_core.specs.Findings.{Bounds, judged, HasMessage, IsEncryptedTag, Finds};
 ghost use Rattle.cose_gate_core.specs.Passing.{IsRefused, IsTold, WentThrough, ItemFails};
@@ -14,20 +18,21 @@ ghost use Rattle.cose_gate_core.specs.Passing.{IsWriteFault, item_failures};
 ghost use Rattle.cose_gate_core.specs.Put.{tagged_put, AsReceived};
 ghost use Rattle.cose_gate_core.specs.Questions.{number_of, tag_of, message_tree};
 ghost use Rattle.cose_gate_core.specs.Received.{IsReceivedMessage};
-ghost use Rattle.cose_gate_core.specs.Terms.{limits_of, IsTaken};
+ghost use Rattle.cose_gate_core.specs.Terms.{limits_of, IsTaken, IsFrontFor};
 ghost use Rattle.cose_gate_core.specs.declared.report.Refusal.TheVariants.{Shape};
 
+use crate::gating::ItemTerms;
 use crate::judge::Judge;
-use crate::message::Message;
+use crate::message::{Four, Message};
 use crate::report::{Refusal, Verdict};
-use crate::terms::Terms;
 use crate::writing::Written;
-use ciborium::{Value, into_writer};
+use ciborium::{Front, Value, into_writer};
 use ciborium_ll::Write;
 use ciborium_value::laws::value_fits;
 use cose_iana::{CborTag, EnumI64};
 use coset_labels::{CoseError, TaggedCborSerializable};
 use coset_maced::{CoseMac, CoseMac0};
+use coset_recipients::PartValues;
 use coset_signed::{CoseSign, CoseSign1};
 use std::alloc::{AllocError, Global};
 
@@ -162,20 +167,23 @@ fn pass_message<M: Message, W: Write, J: Judge>(
 /// it if it has passed.
 fn pass_as<M: Message, W: Write, J: Judge>(
     alloc: Global,
-    terms: Terms,
+    item: ItemTerms<'_>,
     exact: bool,
     content: Value,
     out: &mut W,
-    aad: &[u8],
     judge: &mut J,
 ) -> Result<Verdict, ItemFault>
-    ensures ok { (b : List ℕ) → IsTaken terms b (tag (number_of M.kind) (view content)) exact
-        → IfOk result (WentThrough (item_rules (limits_of terms) J.Judge judge.old aad.now)
+    ensures ok { (b : List ℕ)
+        → IsTaken item.entry.terms b (tag (number_of M.kind) (view content)) exact
+        → IfOk result (WentThrough
+        (item_rules (limits_of item.entry.terms) J.Judge judge.old item.entry.aad.now)
         b (tag (number_of M.kind) (view content))
         (item_sight W.Write J.Judge out.old judge.old)
         (item_sight W.Write J.Judge out.new judge.new)) }
-    ensures err { (b : List ℕ) → IsTaken terms b (tag (number_of M.kind) (view content)) exact
-        → IfErr result (ItemFails (item_rules (limits_of terms) J.Judge judge.old aad.now)
+    ensures err { (b : List ℕ)
+        → IsTaken item.entry.terms b (tag (number_of M.kind) (view content)) exact
+        → IfErr result (ItemFails
+        (item_rules (limits_of item.entry.terms) J.Judge judge.old item.entry.aad.now)
         b (tag (number_of M.kind) (view content))
         (item_sight W.Write J.Judge out.old judge.old)
         (item_sight W.Write J.Judge out.new judge.new)) }
@@ -183,16 +191,55 @@ fn pass_as<M: Message, W: Write, J: Judge>(
     ensures kept { W.handle out.new ≡ W.handle out.old }
     ensures failed { W.failed out.new ≡ W.failed out.old + item_failures result }
 {
-    let shortest = is_shortest::<M>(terms.strict, exact, &content);
+    let shortest = is_shortest::<M>(item.terms.strict, exact, &content);
     let mut message = M::empty(alloc);
-    match message.read(alloc, terms, content) {
+    match message.read(alloc, item.terms, content) {
         Ok(()) => {}
         Err(error) => return Ok(Verdict::Refused(shape_refusal(error)?)),
     }
     match bar_of(&message, shortest) {
         Some(refusal) => Ok(Verdict::Refused(refusal)),
-        None => pass_message(&message, out, aad, judge),
+        None => pass_message(&message, out, item.aad, judge),
     }
+}
+
+/// As `pass_as`, of the content of these parts and the last element, if the gate isn't strict.
+fn pass_parts<M: Four, W: Write, J: Judge>(
+    alloc: Global,
+    item: ItemTerms<'_>,
+    parts: PartValues,
+    last: Value,
+    out: &mut W,
+    judge: &mut J,
+) -> Result<Verdict, ItemFault>
+    requires { item.terms.strict ≡ false }
+    ensures ok { (b : List ℕ)
+        → Reads b (nesting_of item.entry.terms.limits) (tag (number_of M.kind) (four_of parts last))
+        → IfOk result (WentThrough
+        (item_rules (limits_of item.entry.terms) J.Judge judge.old item.entry.aad.now)
+        b (tag (number_of M.kind) (four_of parts last))
+        (item_sight W.Write J.Judge out.old judge.old)
+        (item_sight W.Write J.Judge out.new judge.new)) }
+    ensures err { (b : List ℕ)
+        → Reads b (nesting_of item.entry.terms.limits) (tag (number_of M.kind) (four_of parts last))
+        → IfErr result (ItemFails
+        (item_rules (limits_of item.entry.terms) J.Judge judge.old item.entry.aad.now)
+        b (tag (number_of M.kind) (four_of parts last))
+        (item_sight W.Write J.Judge out.old judge.old)
+        (item_sight W.Write J.Judge out.new judge.new)) }
+    ensures who { J.who judge.new ≡ J.who judge.old }
+    ensures kept { W.handle out.new ≡ W.handle out.old }
+    ensures failed { W.failed out.new ≡ W.failed out.old + item_failures result }
+{
+    let mut message = M::empty(alloc);
+    match message.read_four(alloc, item.terms, parts, last) {
+        Ok(()) => {}
+        Err(error) => return Ok(Verdict::Refused(shape_refusal(error)?)),
+    }
+    if let Some(refusal) = bar_of(&message, true) {
+        return Ok(Verdict::Refused(refusal));
+    }
+    pass_message(&message, out, item.aad, judge)
 }
 
 /// Whether this is the tag's number in the registry (RFC 9052, section 2).
@@ -213,19 +260,20 @@ fn is_encrypted(number: u64) -> bool
 /// Tests an item that was read, asks the judge about it, and writes it if it has passed.
 pub fn pass<W: Write, J: Judge>(
     alloc: Global,
-    terms: Terms,
+    item: ItemTerms<'_>,
     exact: bool,
     value: Value,
     out: &mut W,
-    aad: &[u8],
     judge: &mut J,
 ) -> Result<Verdict, ItemFault>
-    ensures ok { (bytes : List ℕ) → IsTaken terms bytes (view value) exact
-        → IfOk result (WentThrough (item_rules (limits_of terms) J.Judge judge.old aad.now)
+    ensures ok { (bytes : List ℕ) → IsTaken item.entry.terms bytes (view value) exact
+        → IfOk result (WentThrough
+        (item_rules (limits_of item.entry.terms) J.Judge judge.old item.entry.aad.now)
         bytes (view value) (item_sight W.Write J.Judge out.old judge.old)
         (item_sight W.Write J.Judge out.new judge.new)) }
-    ensures err { (bytes : List ℕ) → IsTaken terms bytes (view value) exact
-        → IfErr result (ItemFails (item_rules (limits_of terms) J.Judge judge.old aad.now)
+    ensures err { (bytes : List ℕ) → IsTaken item.entry.terms bytes (view value) exact
+        → IfErr result (ItemFails
+        (item_rules (limits_of item.entry.terms) J.Judge judge.old item.entry.aad.now)
         bytes (view value) (item_sight W.Write J.Judge out.old judge.old)
         (item_sight W.Write J.Judge out.new judge.new)) }
     ensures who { J.who judge.new ≡ J.who judge.old }
@@ -237,11 +285,53 @@ pub fn pass<W: Write, J: Judge>(
     };
     let content = Box::into_inner(content);
     match number {
-        CoseSign1::TAG => pass_as::<CoseSign1, W, J>(alloc, terms, exact, content, out, aad, judge),
-        CoseMac0::TAG => pass_as::<CoseMac0, W, J>(alloc, terms, exact, content, out, aad, judge),
-        CoseSign::TAG => pass_as::<CoseSign, W, J>(alloc, terms, exact, content, out, aad, judge),
-        CoseMac::TAG => pass_as::<CoseMac, W, J>(alloc, terms, exact, content, out, aad, judge),
+        CoseSign1::TAG => pass_as::<CoseSign1, W, J>(alloc, item, exact, content, out, judge),
+        CoseMac0::TAG => pass_as::<CoseMac0, W, J>(alloc, item, exact, content, out, judge),
+        CoseSign::TAG => pass_as::<CoseSign, W, J>(alloc, item, exact, content, out, judge),
+        CoseMac::TAG => pass_as::<CoseMac, W, J>(alloc, item, exact, content, out, judge),
         _ if is_encrypted(number) => Ok(Verdict::Refused(Refusal::Encrypted)),
         _ => Ok(Verdict::Refused(Refusal::OtherTag(number))),
+    }
+}
+
+/// As `pass`, of what was read at the front.
+pub fn pass_front<W: Write, J: Judge>(
+    alloc: Global,
+    item: ItemTerms<'_>,
+    exact: bool,
+    front: Front,
+    out: &mut W,
+    judge: &mut J,
+) -> Result<Verdict, ItemFault>
+    requires { IsFrontFor item.terms front }
+    ensures ok { (bytes : List ℕ) → IsTaken item.entry.terms bytes (front_view front) exact
+        → IfOk result (WentThrough
+        (item_rules (limits_of item.entry.terms) J.Judge judge.old item.entry.aad.now)
+        bytes (front_view front) (item_sight W.Write J.Judge out.old judge.old)
+        (item_sight W.Write J.Judge out.new judge.new)) }
+    ensures err { (bytes : List ℕ) → IsTaken item.entry.terms bytes (front_view front) exact
+        → IfErr result (ItemFails
+        (item_rules (limits_of item.entry.terms) J.Judge judge.old item.entry.aad.now)
+        bytes (front_view front) (item_sight W.Write J.Judge out.old judge.old)
+        (item_sight W.Write J.Judge out.new judge.new)) }
+    ensures who { J.who judge.new ≡ J.who judge.old }
+    ensures kept { W.handle out.new ≡ W.handle out.old }
+    ensures failed { W.failed out.new ≡ W.failed out.old + item_failures result }
+{
+    match front {
+        Front::Item(value) => pass(alloc, item, exact, value, out, judge),
+        Front::Four(number, protected, unprotected, content, last) => {
+            let parts = PartValues {
+                protected,
+                unprotected,
+                content,
+            };
+            match number {
+                CoseSign1::TAG => pass_parts::<CoseSign1, W, J>(
+                    alloc, item, parts, last, out, judge,
+                ),
+                _ => pass_parts::<CoseMac0, W, J>(alloc, item, parts, last, out, judge),
+            }
+        }
     }
 }

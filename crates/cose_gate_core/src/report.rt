@@ -1,41 +1,66 @@
 //! What is noted of each item.
-ghost use Rattle.std.specs.Prelude.{◌≡◌, List, [], ◌∷◌, ◌++◌, OnOk, OnErr};
+ghost use Rattle.std.specs.Prelude.{◌≡◌, ◌≤◌, List, [], ◌∷◌, ◌++◌, length, OnOk, OnErr};
+ghost use Rattle.cose_gate_core.specs.ReasonNames.{refusal_name};
 ghost use Rattle.cose_gate_core.specs.declared.report.Entry.{Entry};
 
 use coset_labels::CoseError;
 use std::alloc::AllocError;
+use std::fmt;
 use thiserror::Error;
 
 /// Why an item was refused. The reasons are tested in the order `NotTagged`, `Encrypted`,
 /// `OtherTag`, `Shape`, `Detached`, `NoSignature`, `NotShortest`, `Judged`. Its text is its name,
 /// and of a shape the fault's text too.
-#[derive(Debug, Clone, Copy, PartialEq, Eq, Error)]
+#[derive(Debug, Clone, Copy, PartialEq, Eq)]
 pub enum Refusal {
     /// The item has no tag.
-    #[error("NotTagged")]
     NotTagged,
     /// The item has a tag of no message that is judged.
-    #[error("OtherTag")]
     OtherTag(u64),
     /// The item has the tag of an encrypted message, 16 or 96.
-    #[error("Encrypted")]
     Encrypted,
     /// The item is no message of its tag.
-    #[error("Shape: {0}")]
     Shape(CoseError),
     /// The message doesn't carry its payload.
-    #[error("Detached")]
     Detached,
     /// The message, a COSE_Sign, has no signature.
-    #[error("NoSignature")]
     NoSignature,
     /// The judge said no to the question with this index, counted from 0.
-    #[error("Judged")]
     Judged(usize),
     /// The item isn't in canonical encoding. Only a strict gate refuses it for that.
-    #[error("NotShortest")]
     NotShortest,
 }
+
+impl Refusal {
+    /// Its name.
+    pub fn name(self) -> &'static str
+        ensures text { result.now ≡ refusal_name self }
+        ensures short { length result.now ≤ 11 }
+    {
+        match self {
+            Refusal::NotTagged => "NotTagged",
+            Refusal::OtherTag(_) => "OtherTag",
+            Refusal::Encrypted => "Encrypted",
+            Refusal::Shape(_) => "Shape",
+            Refusal::Detached => "Detached",
+            Refusal::NoSignature => "NoSignature",
+            Refusal::Judged(_) => "Judged",
+            Refusal::NotShortest => "NotShortest",
+        }
+    }
+}
+
+impl fmt::Display for Refusal {
+    fn fmt<W: fmt::Write>(&self, f: &mut fmt::Formatter<W>) -> fmt::Result {
+        f.write_str(self.name())?;
+        match self {
+            Refusal::Shape(error) => write!(f, ": {error}"),
+            _ => Ok(()),
+        }
+    }
+}
+
+impl std::error::Error for Refusal {}
 
 /// What became of an item: `passed`, or `refused: ` and why.
 #[derive(Debug, Clone, Copy, PartialEq, Eq, Error)]

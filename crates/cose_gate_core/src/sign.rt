@@ -1,7 +1,7 @@
 //! A COSE_Sign, as it is judged.
 ghost use Rattle.std.specs.Prelude.{◌≡◌, OnOk, OnErr, IfOk};
 ghost use Rattle.coset_headers.specs.View.{protected_view, signature_view};
-ghost use Rattle.coset_signed.specs.Fields.{signer_of};
+ghost use Rattle.coset_signed.specs.Fields.{no_sign, signer_of};
 ghost use Rattle.coset_signed.specs.View.{sign_view};
 ghost use Rattle.cose_gate_core.specs.Questions.{one_question, sign};
 ghost use Rattle.cose_gate_core.specs.Received.{IsReceived};
@@ -26,6 +26,8 @@ impl Message for CoseSign {
     ghost kind = { Sign };
 
     ghost message = { λ m. sign (sign_view m) };
+
+    ghost nothing = { sign no_sign };
 
     fn empty(alloc: Global) -> CoseSign {
         CoseSign::new(alloc)

@@ -1,16 +1,18 @@
 //! A COSE_Sign1, as it is judged.
+ghost use Rattle.coset_signed.specs.Fields.{no_sign1};
 ghost use Rattle.coset_signed.specs.View.{sign1_view};
 ghost use Rattle.cose_gate_core.specs.Questions.{sign1};
 
 use crate::about::{About, MessageKind};
 use crate::asking::ask_alone;
 use crate::judge::Judge;
-use crate::message::Message;
+use crate::message::{Four, Message};
 use crate::terms::Terms;
 use ciborium::Value;
 use ciborium::ser::Sink;
 use coset_base::SignatureContext;
 use coset_labels::{AsWritten, CoseError};
+use coset_recipients::PartValues;
 use coset_signed::{CoseSign1, put_tagged_sign1};
 use std::alloc::{AllocError, Global};
 
@@ -20,6 +22,8 @@ impl Message for CoseSign1 {
     ghost kind = { Sign1 };
 
     ghost message = { λ m. sign1 (sign1_view m) };
+
+    ghost nothing = { sign1 no_sign1 };
 
     fn empty(alloc: Global) -> CoseSign1 {
         CoseSign1::new(alloc)
@@ -54,5 +58,17 @@ impl Message for CoseSign1 {
 
     fn put<S: Sink>(&self, to: &mut S) -> Result<(), S::Error> {
         put_tagged_sign1(self, to)
+    }
+}
+
+impl Four for CoseSign1 {
+    fn read_four(
+        &mut self,
+        alloc: Global,
+        terms: Terms,
+        parts: PartValues,
+        last: Value,
+    ) -> Result<(), CoseError> {
+        self.fill_four(alloc, parts, last, terms.limits)
     }
 }

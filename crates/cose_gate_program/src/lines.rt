@@ -1,5 +1,5 @@
 //! The lines of a run. A fault of what they are written to is ignored.
-ghost use Rattle.std.specs.Prelude.{◌≡◌, ◌≤◌, ◌++◌, ◌∷◌, [], List, length};
+ghost use Rattle.std.specs.Prelude.{◌≡◌, ◌≤◌, ◌++◌, ◌∷◌, [], List, length, codes};
 ghost use Rattle.std.specs.Fmt.{decimal};
 ghost use Rattle.cose_gate_program.specs.Lines as spec;
 ghost use Rattle.cose_gate_program.specs.Lines.{line_of};
@@ -12,13 +12,16 @@ use crate::devices::InputFault;
 use crate::telling::{Notice, Teller};
 use ciborium_ll::Write;
 use ciborium_ll::log::Log;
-use cose_gate_core::{Counts, Entry, GateFault, Refusal, SemanticKind, Verdict, de};
+use cose_gate_core::{Counts, Entry, GateFault, Verdict, de};
 use coset_labels::CoseError;
 use itoa::write_digits;
 
 /// The bytes that the line of an item takes at most: 5 and 4 beside two numbers of at most 20, and
 /// an end of at most 23.
 const LINE: usize = 72;
+
+/// What is told of an input that has ended, behind the name of that fault.
+const ENDED: &[u8] = b"(EndOfFile)";
 
 /// The bytes of a number at most.
 const DIGITS: usize = 20;
@@ -40,10 +43,12 @@ pub fn write_notice<W: Write>(notice: &Notice, out: &mut W)
 fn write_entry<W: Write>(entry: Entry, out: &mut W)
     ensures { Wrote W.Write out.old out.new (spec.entry_line entry) }
 {
-    let mut line = [0; LINE];
-    let ending = ending_of(entry.verdict).as_bytes();
-    let after = LINE - ending.len();
-    line[after..].copy_from_slice(ending);
+    let mut line = [b'\n'; LINE];
+    let (verdict, name) = ending_of(entry.verdict);
+    let end = LINE - 1 - name.len();
+    line[end..LINE - 1].copy_from_slice(name.as_bytes());
+    let after = end - verdict.len();
+    line[after..end].copy_from_slice(verdict.as_bytes());
     let offset = write_digits(entry.offset as u64, &mut line, after);
     line[offset - 4..offset].copy_from_slice(b" at ");
     let number = write_digits(entry.number as u64, &mut line, offset - 4);
@@ -51,30 +56,14 @@ fn write_entry<W: Write>(entry: Entry, out: &mut W)
     write(&line[number - 5..], out);
 }
 
-/// The end of the line of an item: the name of a refusal, without what it holds.
-fn ending_of(verdict: Verdict) -> &'static str
-    ensures text { result.now ≡ spec.ending verdict }
-    ensures short { length result.now ≤ 23 }
+/// What the line of an item ends with, and the name of a refusal, without what that holds.
+fn ending_of(verdict: Verdict) -> (&'static str, &'static str)
+    ensures text { result.0.now ++ (result.1.now ++ codes "\n") ≡ spec.ending verdict }
+    ensures short { (length result.0.now ≤ 11) × (length result.1.now ≤ 11) }
 {
     match verdict {
-        Verdict::Passed => ": passed\n",
-        Verdict::Refused(refusal) => refused_ending(refusal),
-    }
-}
-
-fn refused_ending(refusal: Refusal) -> &'static str
-    ensures text { result.now ≡ spec.refused_ending refusal }
-    ensures short { length result.now ≤ 23 }
-{
-    match refusal {
-        Refusal::NotTagged => ": refused: NotTagged\n",
-        Refusal::OtherTag(_) => ": refused: OtherTag\n",
-        Refusal::Encrypted => ": refused: Encrypted\n",
-        Refusal::Shape(_) => ": refused: Shape\n",
-        Refusal::Detached => ": refused: Detached\n",
-        Refusal::NoSignature => ": refused: NoSignature\n",
-        Refusal::Judged(_) => ": refused: Judged\n",
-        Refusal::NotShortest => ": refused: NotShortest\n",
+        Verdict::Passed => (": passed", ""),
+        Verdict::Refused(refusal) => (": refused: ", refusal.name()),
     }
 }
 
@@ -104,57 +93,42 @@ fn write_fault<W: Write>(fault: &GateFault<InputFault>, out: &mut W)
 {
     match fault {
         GateFault::Decode(error) => {
-            write(b"decode: ", out);
-            write_decode_fault(error, input_text(error).as_bytes(), out);
+            write(fault.name().as_bytes(), out);
+            write(b": ", out);
+            write_decode_fault(error, input_detail(error), out);
         }
-        GateFault::Write => write(b"write", out),
-        GateFault::Memory => write(b"memory", out),
+        GateFault::Write | GateFault::Memory => write(fault.name().as_bytes(), out),
     }
 }
 
-/// The text of a fault of the input.
-fn input_text(error: &de::Error<InputFault>) -> &'static str
-    ensures { result.now ≡ spec.input_text error.now }
+/// What is told of a fault of the input behind its name.
+fn input_detail(error: &de::Error<InputFault>) -> &'static [u8]
+    ensures { result.now ≡ spec.input_detail error.now }
 {
     match error {
-        de::Error::Io(InputFault::Failed) => "Io",
-        _ => "Io(EndOfFile)",
+        de::Error::Io(InputFault::Failed) => b"",
+        _ => ENDED,
     }
 }
 
-/// The text of a fault of decoding, if that of a fault of the reader is `io`.
+/// The text of a fault of decoding, if behind the name of a reader's fault `io` is told.
 fn write_decode_fault<E, W: Write>(error: &de::Error<E>, io: &[u8], out: &mut W)
     ensures { Wrote W.Write out.old out.new (spec.decode_text io.now error.now) }
 {
+    write(error.name().as_bytes(), out);
     match error {
         de::Error::Io(_) => write(io, out),
         de::Error::Syntax(offset) => {
-            write(b"Syntax(", out);
+            write(b"(", out);
             write_number(*offset, out);
             write(b")", out);
         }
         de::Error::Semantic(_, kind) => {
-            write(b"Semantic(", out);
-            write(kind_text(*kind).as_bytes(), out);
+            write(b"(", out);
+            write(kind.name().as_bytes(), out);
             write(b")", out);
         }
-        de::Error::RecursionLimitExceeded => write(b"RecursionLimitExceeded", out),
-        de::Error::Memory => write(b"Memory", out),
-        de::Error::TooLong => write(b"TooLong", out),
-    }
-}
-
-fn kind_text(kind: SemanticKind) -> &'static str
-    ensures { result.now ≡ spec.kind_text kind }
-{
-    match kind {
-        SemanticKind::Simple => "Simple",
-        SemanticKind::Break => "Break",
-        SemanticKind::BigNegative => "BigNegative",
-        SemanticKind::WrongType => "WrongType",
-        SemanticKind::Range => "Range",
-        SemanticKind::Length => "Length",
-        SemanticKind::Tag => "Tag",
+        de::Error::RecursionLimitExceeded | de::Error::Memory | de::Error::TooLong => {}
     }
 }
 
@@ -185,37 +159,15 @@ fn write_reason<W: Write>(why: NotBegun, out: &mut W)
 fn write_cose_error<W: Write>(error: CoseError, out: &mut W)
     ensures { Wrote W.Write out.old out.new (spec.cose_text error) }
 {
+    write(error.words().as_bytes(), out);
     match error {
-        CoseError::DecodeFailed(error) => {
-            write(b"decode CBOR failure: ", out);
-            write_decode_fault(&error, b"Io(EndOfFile)", out);
-        }
+        CoseError::DecodeFailed(error) => write_decode_fault(&error, ENDED, out),
         CoseError::UnexpectedItem(got, expected) => {
-            write(b"got ", out);
             write(got.as_bytes(), out);
             write(b", expected ", out);
             write(expected.as_bytes(), out);
         }
-        _ => write(name_of(error).as_bytes(), out),
-    }
-}
-
-/// The text of an error that holds nothing.
-fn name_of(error: CoseError) -> &'static str
-    ensures { result.now ≡ spec.name_of error }
-{
-    match error {
-        CoseError::DuplicateMapKey => "duplicate map key",
-        CoseError::EncodeFailed => "encode CBOR failure",
-        CoseError::ExtraneousData => "extraneous data in CBOR input",
-        CoseError::OutOfRangeIntegerValue => "out of range integer value",
-        CoseError::UnregisteredIanaValue => "expected recognized IANA value",
-        CoseError::UnregisteredIanaNonPrivateValue => {
-            "expected value in IANA or private use range"
-        }
-        CoseError::Memory => "out of memory",
-        CoseError::TooManyLayers => "too many protected layers",
-        CoseError::DecodeFailed(_) | CoseError::UnexpectedItem(_, _) => "",
+        _ => {}
     }
 }
 

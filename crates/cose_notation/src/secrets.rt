@@ -542,7 +542,7 @@ pub fn holds_secret(alloc: Global, bytes: &[u8]) -> Result<bool, NotWritten> {
     Ok(searched(alloc, bytes)?.is_secret())
 }
 
-/// Whether an item may hold secrets of keys that has a fault at this place, if so many bytes from it
+/// Whether an item may hold secrets of keys that has a fault at this place, if so many bytes of it
 /// on are shown: in front of it is a secret, or a label below 0, or a map with a type that goes on
 /// after it; or in those bytes is what looks like a secret with its label.
 ///

@@ -1,4 +1,4 @@
-//! Laws of the definitions: those of labels, headers and structures, and of what is written straight
+//! Laws of definitions: those of labels, headers and structures, and of what is written straight
 //! from fields.
 pub mod sink;
 pub mod structures;

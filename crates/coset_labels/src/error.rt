@@ -1,4 +1,7 @@
 //! Why a COSE structure was not read or written.
+ghost use Rattle.std.specs.Prelude.{◌≡◌};
+ghost use Rattle.coset_labels.specs.ErrorWords.{error_words};
+
 use ciborium::{de, ser};
 use std::alloc::{AllocError, AllocFailed};
 use std::fmt;
@@ -10,39 +13,64 @@ use std::num::TryFromIntError;
 pub struct EndOfFile;
 
 /// Why a COSE structure was not read or written.
-#[derive(Clone, Copy, PartialEq, Eq, thiserror::Error)]
+#[derive(Clone, Copy, PartialEq, Eq)]
 pub enum CoseError {
     /// Bytes that should have been one item are none.
-    #[error("decode CBOR failure: {0}")]
     DecodeFailed(de::Error<EndOfFile>),
     /// A label is repeated in one map.
-    #[error("duplicate map key")]
     DuplicateMapKey,
     /// A value can't be written.
-    #[error("encode CBOR failure")]
     EncodeFailed,
     /// Bytes go on after their item.
-    #[error("extraneous data in CBOR input")]
     ExtraneousData,
     /// An integer outside the range of its type.
-    #[error("out of range integer value")]
     OutOfRangeIntegerValue,
     /// Another item than the one that has its place here: what it is, and what was expected.
-    #[error("got {0}, expected {1}")]
     UnexpectedItem(&'static str, &'static str),
     /// A number that the registry hasn't.
-    #[error("expected recognized IANA value")]
     UnregisteredIanaValue,
     /// A number that neither the registry nor its private range has.
-    #[error("expected value in IANA or private use range")]
     UnregisteredIanaNonPrivateValue,
     /// Out of memory.
-    #[error("out of memory")]
     Memory,
     /// Protected headers inside one another, more than the limits allow (16 if none are chosen).
-    #[error("too many protected layers")]
     TooManyLayers,
 }
+
+impl CoseError {
+    /// The words that its text begins with; they are the whole text if the error holds nothing.
+    pub fn words(self) -> &'static str
+        ensures { result.now ≡ error_words self }
+    {
+        match self {
+            CoseError::DecodeFailed(_) => "decode CBOR failure: ",
+            CoseError::DuplicateMapKey => "duplicate map key",
+            CoseError::EncodeFailed => "encode CBOR failure",
+            CoseError::ExtraneousData => "extraneous data in CBOR input",
+            CoseError::OutOfRangeIntegerValue => "out of range integer value",
+            CoseError::UnexpectedItem(_, _) => "got ",
+            CoseError::UnregisteredIanaValue => "expected recognized IANA value",
+            CoseError::UnregisteredIanaNonPrivateValue => {
+                "expected value in IANA or private use range"
+            }
+            CoseError::Memory => "out of memory",
+            CoseError::TooManyLayers => "too many protected layers",
+        }
+    }
+}
+
+impl fmt::Display for CoseError {
+    fn fmt<W: fmt::Write>(&self, f: &mut fmt::Formatter<W>) -> fmt::Result {
+        f.write_str(self.words())?;
+        match self {
+            CoseError::DecodeFailed(error) => write!(f, "{error}"),
+            CoseError::UnexpectedItem(got, expected) => write!(f, "{got}, expected {expected}"),
+            _ => Ok(()),
+        }
+    }
+}
+
+impl std::error::Error for CoseError {}
 
 /// What most functions here return.
 pub type Result<T, E = CoseError> = std::result::Result<T, E>;

@@ -2,6 +2,7 @@
 ghost use Rattle.std.specs.Prelude.{◌≡◌, OnErr};
 ghost use Rattle.ciborium_value.specs.View.{view};
 ghost use Rattle.coset_labels.specs.Limits.{nesting, layers};
+ghost use Rattle.coset_recipients.specs.PartsView.{four_of};
 ghost use Rattle.coset_recipients.specs.Results.{ReadsWithin};
 ghost use Rattle.coset_maced.specs.Fields.{Mac0Fields, no_mac0};
 ghost use Rattle.coset_maced.specs.Shapes.{HasMac0};
@@ -85,26 +86,45 @@ impl CoseMac0 {
         *self = CoseMac0::new(alloc);
         let items = value.try_as_array()?;
         match four(items) {
-            Some((protected, unprotected, payload, tag)) => {
-                let tag = tag.try_as_bytes()?;
-                let values = PartValues {
+            Some((protected, unprotected, content, tag)) => {
+                let parts = PartValues {
                     protected,
                     unprotected,
-                    content: payload,
+                    content,
                 };
-                values.fill(
-                    alloc,
-                    limits,
-                    "bstr",
-                    &mut self.protected,
-                    &mut self.unprotected,
-                    &mut self.payload,
-                )?;
-                self.tag = tag;
-                Ok(())
+                self.fill_four(alloc, parts, tag, limits)
             }
             None => Err(CoseError::UnexpectedItem("array", "array with 4 items")),
         }
+    }
+
+    /// As `fill`, of the array of these parts and the tag, into a message that has no field.
+    ///
+    /// # Errors
+    /// Those of `from_cbor_value_with`.
+    pub fn fill_four(
+        &mut self,
+        alloc: Global,
+        parts: PartValues,
+        tag: Value,
+        limits: Limits,
+    ) -> Result<(), CoseError>
+        requires empty { mac0_view self.old ≡ no_mac0 }
+        ensures read { ReadsWithin limits HasMac0 WrongMac0 (four_of parts tag)
+            (λ _. mac0_view self.new) result }
+        ensures err { OnErr result (mac0_view self.new ≡ no_mac0) }
+    {
+        let tag = tag.try_as_bytes()?;
+        parts.fill(
+            alloc,
+            limits,
+            "bstr",
+            &mut self.protected,
+            &mut self.unprotected,
+            &mut self.payload,
+        )?;
+        self.tag = tag;
+        Ok(())
     }
 }
 

@@ -2,6 +2,7 @@
 ghost use Rattle.std.specs.Prelude.{◌≡◌, OnErr};
 ghost use Rattle.ciborium_value.specs.View.{view};
 ghost use Rattle.coset_labels.specs.Limits.{nesting, layers};
+ghost use Rattle.coset_recipients.specs.PartsView.{four_of};
 ghost use Rattle.coset_recipients.specs.Results.{ReadsWithin};
 ghost use Rattle.coset_signed.specs.Fields.{Sign1Fields, no_sign1};
 ghost use Rattle.coset_signed.specs.Shapes.{HasSign1};
@@ -83,26 +84,45 @@ impl CoseSign1 {
         *self = CoseSign1::new(alloc);
         let items = value.try_as_array()?;
         match four(items) {
-            Some((protected, unprotected, payload, signature)) => {
-                let signature = signature.try_as_bytes()?;
-                let values = PartValues {
+            Some((protected, unprotected, content, signature)) => {
+                let parts = PartValues {
                     protected,
                     unprotected,
-                    content: payload,
+                    content,
                 };
-                values.fill(
-                    alloc,
-                    limits,
-                    "bstr or nil",
-                    &mut self.protected,
-                    &mut self.unprotected,
-                    &mut self.payload,
-                )?;
-                self.signature = signature;
-                Ok(())
+                self.fill_four(alloc, parts, signature, limits)
             }
             None => Err(CoseError::UnexpectedItem("array", "array with 4 items")),
         }
+    }
+
+    /// As `fill`, of the array of these parts and the signature, into a message that has no field.
+    ///
+    /// # Errors
+    /// Those of `from_cbor_value_with`.
+    pub fn fill_four(
+        &mut self,
+        alloc: Global,
+        parts: PartValues,
+        signature: Value,
+        limits: Limits,
+    ) -> Result<(), CoseError>
+        requires empty { sign1_view self.old ≡ no_sign1 }
+        ensures read { ReadsWithin limits HasSign1 WrongSign1 (four_of parts signature)
+            (λ _. sign1_view self.new) result }
+        ensures err { OnErr result (sign1_view self.new ≡ no_sign1) }
+    {
+        let signature = signature.try_as_bytes()?;
+        parts.fill(
+            alloc,
+            limits,
+            "bstr or nil",
+            &mut self.protected,
+            &mut self.unprotected,
+            &mut self.payload,
+        )?;
+        self.signature = signature;
+        Ok(())
     }
 }
 

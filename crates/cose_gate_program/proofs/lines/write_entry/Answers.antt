@@ -6,15 +6,15 @@ use Rattle.cose_gate_program.proofs.lines.write_entry.Goals as goal
 pub write_digits-offset-requires : goal.write_digits-offset-requires
 write_digits-offset-requires g c =
     let offset : length (decimal c.args.entry.offset) ≤ 20 = search (rules, length-decimal-le 20) in
-    (omega (arith, c.ending_of.ensures, c.as_bytes-ending.ensures.len), grind (arith, common_steps))
+    (omega (arith, c.ending_of.ensures.short.0, c.ending_of.ensures.short.1, c.as_bytes.ensures.len, c.as_bytes-2.ensures.len), grind (arith, common_steps))
 
 pub overflow_sub-line : goal.overflow_sub-line
 overflow_sub-line g c =
     let offset : length (decimal c.args.entry.offset) ≤ 20 = search (rules, length-decimal-le 20) in
     omega arith
 
-pub copy_from_slice-requires-2 : goal.copy_from_slice-requires-2
-copy_from_slice-requires-2 g c =
+pub copy_from_slice-requires-3 : goal.copy_from_slice-requires-3
+copy_from_slice-requires-3 g c =
     let offset : length (decimal c.args.entry.offset) ≤ 20 = search (rules, length-decimal-le 20) in
     grind (arith, common_steps)
 
@@ -30,8 +30,8 @@ overflow_sub-line-2 g c =
     let number : length (decimal c.args.entry.number) ≤ 20 = search (rules, length-decimal-le 20) in
     omega arith
 
-pub copy_from_slice-requires-3 : goal.copy_from_slice-requires-3
-copy_from_slice-requires-3 g c =
+pub copy_from_slice-requires-4 : goal.copy_from_slice-requires-4
+copy_from_slice-requires-4 g c =
     let offset : length (decimal c.args.entry.offset) ≤ 20 = search (rules, length-decimal-le 20) in
     let number : length (decimal c.args.entry.number) ≤ 20 = search (rules, length-decimal-le 20) in
     grind (arith, common_steps)

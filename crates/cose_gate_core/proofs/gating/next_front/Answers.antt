@@ -1,7 +1,7 @@
 use Rattle.std.proofs.Common.{sym, ◌∙◌}
 use Rattle.cose_gate_core.proofs.Outcomes.{nothing_fails, nothing_answer}
-use Rattle.cose_gate_core.proofs.gating.next_item.Goals as goal
-use Rattle.cose_gate_core.proofs.gating.next_item.Goals.{then-is_end+else-offset, else-is_end}
+use Rattle.cose_gate_core.proofs.gating.next_front.Goals as goal
+use Rattle.cose_gate_core.proofs.gating.next_front.Goals.{then-is_end+else-offset, else-is_end}
 
 pub returns-in-Err-2-clause-nothing : goal.returns-in-Err-2-clause-nothing
 returns-in-Err-2-clause-nothing g c = λ none same small.
