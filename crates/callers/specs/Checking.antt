@@ -1,10 +1,13 @@
 -- What a check of one message gives, and how a program ends.
-use Rattle.std.specs.Prelude.{◌≡◌, ℕ, ◌+◌, ◌*◌, ◌<◌, List, [], ◌∷◌, ◌++◌, length, sum, Bool, Option, None, Some}
+use Rattle.std.specs.Prelude.{◌≡◌, ℕ, ◌+◌, ◌*◌, ◌<◌, ◌≤◌, List, [], ◌∷◌, ◌++◌, length, sum, Bool, Option, None, Some, Result, Ok, Err}
+use Rattle.std.specs.Io.KnownBytes.{Appends}
+use Rattle.ciborium_ll.specs.Device.{AppendsFront}
 use Rattle.cose_gate.specs.Findings.{usual, IsJudged}
 use Rattle.cose_gate.specs.Front.{Reads}
 use Rattle.cose_gate.specs.HmacJudges.{says_yes}
 use Rattle.cose_gate.specs.Items.{nesting}
-use Rattle.cose_gate.specs.Questions.{Question, MessageFields, all_questions}
+use Rattle.cose_gate.specs.Questions.{Question, MessageFields, all_questions, payload_of}
+use Rattle.cose_gate.specs.Reading.{IfKnown}
 use Rattle.cose_gate.specs.Stated.{Stated}
 use Rattle.cose_gate.specs.Tree.{Tree}
 use Rattle.cose_gate.specs.Program.{Devices}
@@ -31,6 +34,27 @@ pub record IsFedInFew (room : ℕ) (lengths b : List ℕ) : Type 0 where
   pub whole : lengths ≡ front ++ pieces
   pub all : sum pieces ≡ n
   pub few : length pieces * room < n + room
+
+-- the same of a message that carries this payload
+abbrev pub Carries : (Question → Bool) → List ℕ → Bool → List ℕ → List ℕ → Type 0
+Carries allows aad answer payload b =
+    (answered : IsAnswered allows aad answer b) × (payload_of answered.message ≡ Some payload)
+
+-- a text was handed on, or a beginning of it, and then the writer failed, once
+abbrev pub IsHandedOn : {E : Type 0} → Result (Unit {0}) E → Option (List ℕ) → Option (List ℕ) → ℕ
+    → ℕ → List ℕ → Type 0
+IsHandedOn (Ok u) written written' failures failures' text =
+    Appends written written' text × (failures' ≡ failures)
+IsHandedOn (Err e) written written' failures failures' text =
+    AppendsFront written written' text × (failures' ≡ failures + 1)
+
+-- what was handed on stands in the input at one place, and the writer failed at most once
+pub record IsPartOf (input written written' : Option (List ℕ)) (failures failures' : ℕ)
+    : Type 0 where
+  pub text : List ℕ
+  pub grows : Appends written written' text
+  pub once : failures' ≤ failures + 1
+  pub stands : IfKnown input (λ b. (front rest : List ℕ) × (b ≡ front ++ (text ++ rest)))
 
 -- the arguments say how to run; without them the status is that of a wrong call, and nothing was
 -- read or written

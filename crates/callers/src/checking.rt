@@ -7,13 +7,14 @@ ghost use Rattle.cose_gate.specs.HmacJudges.{says_yes};
 ghost use Rattle.cose_gate.specs.KeyView.{key_set_view};
 ghost use Rattle.cose_gate.specs.Views.{left_of};
 ghost use Rattle.cose_gate.specs.Words as spec;
-ghost use Rattle.callers.specs.Checking.{IsAnswered, IsFedInFew, EndsBy, EndsOver};
+ghost use Rattle.callers.specs.Checking.{Carries, IsAnswered, IsFedInFew, IsHandedOn, IsPartOf};
+ghost use Rattle.callers.specs.Checking.{EndsBy, EndsOver};
 
 use cose_gate::laws::judged_can_be_written;
 use cose_gate::stream_laws::pieces_fit;
 use cose_gate::{
-    Blocks, CoseKeySet, Decoder, HmacJudge, Judge, Limits, Read, StreamFault, Write, run,
-    stream_check, stream_check_with, words,
+    Blocks, CoseKeySet, Decoder, HmacJudge, Judge, Limits, Read, StreamFault, Streamed, Write, run,
+    stream_check, stream_check_into, stream_check_with, words,
 };
 use std::alloc::Global;
 use std::io;
@@ -39,6 +40,34 @@ pub fn is_tagged<R: Read>(
     judged_can_be_written();
     let mut judge = HmacJudge::new(keys);
     stream_check(alloc, decoder, buffer, aad, &mut judge)
+}
+
+/// As `is_tagged`, and hands the payload on, which is good only after a yes. If the writer fails,
+/// the message is checked to its end.
+///
+/// # Errors
+/// Those of `stream_check`. Then a part of the input may be handed on.
+pub fn is_tagged_into<R: Read, W: Write>(
+    alloc: Global,
+    decoder: &mut Decoder<R>,
+    buffer: &mut [u8],
+    aad: &[u8],
+    keys: &CoseKeySet,
+    out: &mut W,
+) -> Result<Streamed<W::Error>, StreamFault<R::Error>>
+    requires { 0 < length buffer.old }
+    ensures ok { IfOk result (λ s. (payload front : List ℕ)
+        × Consumes (left_of R.left decoder.old) (left_of R.left decoder.new) front
+        × Carries (says_yes (key_set_view keys.now)) aad.now s.yes payload front
+        × IsHandedOn s.written (W.written out.old) (W.written out.new) (W.failed out.old)
+        (W.failed out.new) payload) }
+    ensures part { IsPartOf (left_of R.left decoder.old) (W.written out.old) (W.written out.new)
+        (W.failed out.old) (W.failed out.new) }
+{
+    judged_can_be_written();
+    let limits = Limits::default();
+    let mut judge = HmacJudge::new(keys);
+    stream_check_into(alloc, limits, decoder, buffer, aad, &mut judge, out)
 }
 
 /// A check by any judge, within these limits, which is fed the payload in as few pieces as its

@@ -1,4 +1,5 @@
 pub mod Copied
+pub mod CutOff
 pub mod Elements
 pub mod Exactly
 pub mod Facts

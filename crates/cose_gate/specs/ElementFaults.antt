@@ -1,7 +1,9 @@
 -- What the titles and the elements of a message show, each over its own bytes.
-use Rattle.std.specs.Prelude.{◌≡◌, ◌≢◌, ℕ, ◌<◌, ◌⊎◌, List, ◌∷◌, ◌++◌, length, Option, Some, None, false}
+use Rattle.std.specs.Prelude.{◌≡◌, ◌≢◌, ℕ, ◌<◌, ◌≤◌, ◌⊎◌, List, ◌∷◌, ◌++◌, length, Option, Some, None, false, Result}
 use Rattle.ciborium_ll.specs.declared.hdr.Header.{Header}
 use Rattle.ciborium_ll.specs.declared.hdr.Header.TheVariants.{Simple, Tag, Bytes, Array, Break}
+use Rattle.ciborium_ll.specs.declared.write.Write.{Ghosts as Writes}
+use Rattle.ciborium_ll.specs.Reading.{Starts}
 use Rattle.ciborium_ll.specs.Title.{Begins}
 use Rattle.ciborium_value.specs.Tree.{Tree, is_bytes}
 use Rattle.ciborium.specs.Front.{Reads, Front}
@@ -13,7 +15,7 @@ use Rattle.cose_gate.specs.declared.fault.StreamFault.TheVariants as fault
 use Rattle.cose_gate.specs.declared.titles.Payload.{Payload}
 use Rattle.cose_gate.specs.declared.titles.Payload.TheVariants as payload
 use Rattle.cose_gate.specs.Stated.{IsSingleTag, IsFour, Cut}
-use Rattle.cose_gate.specs.Streaming.{Why, damaged, untagged, tagged, shape, without_payload, without_length, refused}
+use Rattle.cose_gate.specs.Streaming.{WritesAll, Why, damaged, untagged, tagged, shape, without_payload, without_length, refused}
 
 -- the next title
 abbrev pub TitleFault : ℕ → List ℕ → Why → Type 0
@@ -103,6 +105,16 @@ ShortFault n b (shape e) = ⊥
 ShortFault n b without_payload = ⊥
 ShortFault n b without_length = ⊥
 ShortFault n b refused = Unit {0}
+
+-- the bytes that come next, at most n, were written; or a beginning of them, and then the writer
+-- failed
+pub record CopiedNext {W F : Type 0} (w : Writes W F) (old new : W) (left : Option (List ℕ))
+    (n : ℕ) : Type 0 where
+  pub answer : Result (Unit {0}) F
+  pub text : List ℕ
+  pub written : WritesAll w old new answer text
+  pub next : Starts left text
+  pub fits : length text ≤ n
 
 -- the end of an open array
 abbrev pub CloseFault : ℕ → List ℕ → Why → Type 0

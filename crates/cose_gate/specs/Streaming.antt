@@ -160,6 +160,24 @@ pub record Opening (limits : Bounds) (b : List ℕ) (h : Header) : Type 0 where
   pub are_two : tree_count headers ≡ 2
   pub title : Begins third h behind
 
+-- the bytes are right up to a payload whose title states its length, and it begins with this text
+-- (RFC 9052, sections 4.2 and 6.2)
+pub record BeginsPayload (limits : Bounds) (b text : List ℕ) : Type 0 where
+  pub size : ℕ
+  pub opening : Opening limits b (Bytes (Some size))
+  pub rest : List ℕ
+  pub follows : opening.behind ≡ text ++ rest
+  pub fits : length text ≤ size
+
+-- what a writer got of the payload of a message that was to come: nothing, and it is as it was; or a
+-- text that the payload begins with, if the bytes are known, up to its end or to one failure of the
+-- writer
+pub data CopiedPart {W F : Type 0} (limits : Bounds) (w : Writes W F) (old new : W)
+    (left : Option (List ℕ)) : Type 0 where
+  nothing_copied : new ≡ old → CopiedPart limits w old new left
+  part_copied : (answer : Result (Unit {0}) F) (text : List ℕ) → WritesAll w old new answer text
+      → IfKnown left (λ b. BeginsPayload limits b text) → CopiedPart limits w old new left
+
 -- what shows that bytes with the tag of such a message begin none. In front of the fault all is
 -- right; what is after it may be cut or damaged.
 pub data ShowsFault (limits : Bounds) (b : List ℕ) : CoseFault → Type 0 where

@@ -1,10 +1,10 @@
 //! The streaming check.
 ghost use Rattle.std.specs.Prelude.{◌≡◌, ◌<◌, IfOk, IfErr, OnErr, length};
 ghost use Rattle.ciborium_ll.specs.Seen.{Takes};
-ghost use Rattle.ciborium_ll.specs.Views.{offset_of, seen};
+ghost use Rattle.ciborium_ll.specs.Views.{left_of, offset_of, seen};
 ghost use Rattle.coset_labels.specs.Limits.{nesting_of, layers_of};
 ghost use Rattle.cose_gate_core.specs.Findings.{plain};
-ghost use Rattle.cose_gate.specs.Streaming.{Checked, CheckedBy, CopiedBy, WritesAll};
+ghost use Rattle.cose_gate.specs.Streaming.{Checked, CheckedBy, CopiedBy, CopiedPart, WritesAll};
 ghost use Rattle.cose_gate.specs.Streaming.{Unstreamed, UnstreamedBy, IsFarFor, NamesWhy, Steady};
 ghost use Rattle.cose_gate.specs.Streaming.{AnswersStated, AnswersStatedBy};
 
@@ -126,7 +126,9 @@ pub struct Streamed<E> {
 /// message is checked to its end.
 ///
 /// # Errors
-/// Those of `stream_check`; then a beginning of the payload may be written.
+/// Those of `stream_check`. Nothing is written then, or a beginning of the payload: bytes that follow
+/// the title in its place, from the first one on, and no more than it states. After them the message
+/// may be cut or damaged.
 pub fn stream_check_into<R: Read, J: Judge, W: Write>(
     alloc: Global,
     limits: Limits,
@@ -154,6 +156,11 @@ pub fn stream_check_into<R: Read, J: Judge, W: Write>(
     ensures who { J.who judge.new ≡ J.who judge.old }
     ensures far { IfErr result (IsFarFor (length buffer.old) (offset_of decoder.new)) }
     ensures steady { Steady R.ends result (seen R.Read decoder.old) (seen R.Read decoder.new) }
+
+    // Whatever the result, nothing was written but a beginning of the payload, once, up to its end
+    // or to one failure of the writer.
+    ensures part { CopiedPart (plain (nesting_of limits) (layers_of limits)) W.Write out.old out.new
+        (left_of R.left decoder.old) }
     ensures lent { W.handle out.new ≡ W.handle out.old }
 {
     let form = message_tag(decoder)?;

@@ -1,10 +1,10 @@
 //! What is fed to the judge: the front of the structure, and the payload as it passes.
 ghost use Rattle.std.specs.Prelude.{◌≡◌, ◌<◌, ◌++◌, [], ℕ, List, None, IfErr, IfOk, OnOk, length};
 ghost use Rattle.ciborium_ll.specs.Seen.{Takes};
-ghost use Rattle.ciborium_ll.specs.Views.{offset_of, waiting_of, seen};
+ghost use Rattle.ciborium_ll.specs.Views.{left_of, offset_of, waiting_of, seen};
 ghost use Rattle.coset_base.specs.Structure.{structure};
 ghost use Rattle.cose_gate_core.specs.Questions.{Subject};
-ghost use Rattle.cose_gate.specs.ElementFaults.{ShortFault, Split};
+ghost use Rattle.cose_gate.specs.ElementFaults.{CopiedNext, ShortFault, Split};
 ghost use Rattle.cose_gate.specs.Forms.{context_of};
 ghost use Rattle.cose_gate.specs.Streaming.{IsFarFor, NamesWhy, Steady, WritesAll};
 
@@ -59,6 +59,7 @@ pub fn feed_payload<R: Read, J: Judge, W: Write>(
         (J.pieces judge.new)) }
     ensures err { IfErr result (NamesWhy R.ends (λ stop b. ShortFault size b) (length buffer.old)
         (seen R.Read decoder.old)) }
+    ensures part { CopiedNext W.Write out.old out.new (left_of R.left decoder.old) size }
     ensures told { J.told judge.new ≡ J.told judge.old }
     ensures who { J.who judge.new ≡ J.who judge.old }
     ensures far { IfErr result (IsFarFor (length buffer.old) (offset_of decoder.new)) }

@@ -15,7 +15,7 @@ use Rattle.cose_gate.specs.GateFault.TheVariants as gating
 use Rattle.coset_labels.specs.Limits.{nesting, layers}
 use Rattle.cose_gate.specs.Questions.{Question}
 use Rattle.cose_gate.specs.Reading.{IfKnown}
-use Rattle.cose_gate.specs.Streaming.{CopiedBy, Tells, IsLongFor, Unstreamed, UnstreamedBy, WritesAll, Why, fault_failures, damaged, untagged, tagged, shape, without_payload, without_length}
+use Rattle.cose_gate.specs.Streaming.{CopiedBy, CopiedPart, Tells, IsLongFor, Unstreamed, UnstreamedBy, WritesAll, Why, fault_failures, damaged, untagged, tagged, shape, without_payload, without_length}
 use Rattle.cose_gate.specs.Faults.{fault_of}
 use Rattle.cose_gate.specs.declared.fault.StreamFault.{StreamFault}
 use Rattle.cose_gate.specs.declared.fault.StreamFault.TheVariants as fault
@@ -62,43 +62,61 @@ same_failures ends fault.Detached n = refl
 same_failures ends fault.Unsized n = refl
 same_failures ends fault.Memory n = refl
 
+-- within the limits if none are chosen, of the whole input
+pub part_usually : {W F : Type 0} (w : Writing W F) (out out' : W) (levels layers' : ℕ) (from l : Option (List ℕ)) → levels ≡ nesting → layers' ≡ layers → from ≡ l
+    → CopiedPart (plain levels layers') w out out' from → CopiedPart usual w out out' l
+part_usually w out out' levels layers' from l n y is c =
+    subst (λ (z : Option (List ℕ)). CopiedPart usual w out out' z) is
+    (subst (λ (z : ℕ). CopiedPart (plain nesting z) w out out' from) y (subst (λ (z : ℕ). CopiedPart (plain z layers') w out out' from) n c))
+
 module _ {W F : Type 0} (allows : Question → Bool) (aad : List ℕ) (w : Writing W F) (out out' : W) where
-  stops_at : {E : Type 0} (ends : E → Bool) (l : Option (List ℕ)) (f : StreamFault E) → IfKnown l (λ b. Tells ends (Unstreamed (0 + length b) b) (IsLongFor 4096 0 b) f)
+  stops_at : {E : Type 0} (ends : E → Bool) (l : Option (List ℕ)) (f : StreamFault E) → CopiedPart usual w out out' l → IfKnown l (λ b. Tells ends (Unstreamed (0 + length b) b) (IsLongFor 4096 0 b) f)
       → Ended allows aad l w out out' (Err (stopped_by ends f))
-  stops_at ends l (fault.Decode e) k =
-      known_as l _ _ (λ b t. subst (λ (n : ℕ). Tells is_end (Unstreamed n b) (IsLongFor 4096 0 b) (fault.Decode (error_of ends e))) (zero-add (length b)) (told_small ends (Unstreamed (0 + length b) b) (IsLongFor 4096 0 b) e t)) k
-  stops_at ends l fault.NotTagged k = known_as l _ _ (λ b t. (untagged, refl, subst (λ (n : ℕ). Unstreamed n b untagged) (zero-add (length b)) t)) k
-  stops_at ends l (fault.OtherTag n) k = known_as l _ _ (λ b t. (tagged n, (n, refl), subst (λ (m : ℕ). Unstreamed m b (tagged n)) (zero-add (length b)) t)) k
-  stops_at ends l (fault.Shape e) k = known_as l _ _ (λ b t. (shape (fault_of e), (fault_of e, refl), subst (λ (n : ℕ). Unstreamed n b (shape (fault_of e))) (zero-add (length b)) t)) k
-  stops_at ends l fault.Detached k = known_as l _ _ (λ b t. (without_payload, refl, subst (λ (n : ℕ). Unstreamed n b without_payload) (zero-add (length b)) t)) k
-  stops_at ends l fault.Unsized k = known_as l _ _ (λ b t. (without_length, refl, subst (λ (n : ℕ). Unstreamed n b without_length) (zero-add (length b)) t)) k
-  stops_at ends l fault.Memory k = tt
+  stops_at ends l (fault.Decode e) p k = (
+    known_as l _ _ (λ b t. subst (λ (n : ℕ). Tells is_end (Unstreamed n b) (IsLongFor 4096 0 b) (fault.Decode (error_of ends e))) (zero-add (length b)) (told_small ends (Unstreamed (0 + length b) b) (IsLongFor 4096 0 b) e t)) k,
+    p,
+  )
+  stops_at ends l fault.NotTagged p k = (known_as l _ _ (λ b t. (untagged, refl, subst (λ (n : ℕ). Unstreamed n b untagged) (zero-add (length b)) t)) k, p)
+  stops_at ends l (fault.OtherTag n) p k = (known_as l _ _ (λ b t. (tagged n, (n, refl), subst (λ (m : ℕ). Unstreamed m b (tagged n)) (zero-add (length b)) t)) k, p)
+  stops_at ends l (fault.Shape e) p k = (known_as l _ _ (λ b t. (shape (fault_of e), (fault_of e, refl), subst (λ (n : ℕ). Unstreamed n b (shape (fault_of e))) (zero-add (length b)) t)) k, p)
+  stops_at ends l fault.Detached p k = (known_as l _ _ (λ b t. (without_payload, refl, subst (λ (n : ℕ). Unstreamed n b without_payload) (zero-add (length b)) t)) k, p)
+  stops_at ends l fault.Unsized p k = (known_as l _ _ (λ b t. (without_length, refl, subst (λ (n : ℕ). Unstreamed n b without_length) (zero-add (length b)) t)) k, p)
+  stops_at ends l fault.Memory p k = p
 
   pub stops : {E : Type 0} (ends : E → Bool) (levels layers' : ℕ) (from l : Option (List ℕ)) (o : ℕ) (f : StreamFault E) → levels ≡ nesting → layers' ≡ layers → from ≡ l → o ≡ 0
-      → Names ends (UnstreamedBy (plain levels layers')) 4096 from o f → Ended allows aad l w out out' (Err (stopped_by ends f))
-  stops ends levels layers' from l o f n y is start by =
+      → Names ends (UnstreamedBy (plain levels layers')) 4096 from o f → CopiedPart (plain levels layers') w out out' from → Ended allows aad l w out out' (Err (stopped_by ends f))
+  stops ends levels layers' from l o f n y is start by part =
       let usually = subst (λ (z : ℕ). Names ends (UnstreamedBy (plain nesting z)) 4096 from o f) y (subst (λ (z : ℕ). Names ends (UnstreamedBy (plain z layers')) 4096 from o f) n by) in
       let whole = subst (λ (z : Option (List ℕ)). Names ends Unstreamed 4096 z o f) is usually in
-      stops_at ends l f (subst (λ (z : ℕ). Names ends Unstreamed 4096 l z f) start whole).1
+      stops_at ends l f (part_usually w out out' levels layers' from l n y is part) (subst (λ (z : ℕ). Names ends Unstreamed 4096 l z f) start whole).1
 
   -- the input couldn't be read on after a message
-  pub reads_no_more : (l : Option (List ℕ)) (at : ℕ) (f : StreamStop) → IfKnown l (λ b. at ≤ length b) → IsNoEnd at f → Ended allows aad l w out out' (Err f)
-  reads_no_more l at (stop.Stopped (gating.Decode (de.Io e))) k none = known_as l _ _ (λ b p. λ ended. absurd (true≢false (sym ended ∙ none))) k
-  reads_no_more l at (stop.Stopped (gating.Decode de.TooLong)) k none = known_as l _ _ (λ b p. omega (arith, p, none)) k
-  reads_no_more l at (stop.Stopped (gating.Decode (de.Syntax p))) k none = absurd none
-  reads_no_more l at (stop.Stopped (gating.Decode (de.Semantic p i))) k none = absurd none
-  reads_no_more l at (stop.Stopped (gating.Decode de.RecursionLimitExceeded)) k none = absurd none
-  reads_no_more l at (stop.Stopped (gating.Decode de.Memory)) k none = absurd none
-  reads_no_more l at (stop.Stopped gating.Write) k none = absurd none
-  reads_no_more l at (stop.Stopped gating.Memory) k none = absurd none
-  reads_no_more l at (stop.NotBegun why) k none = absurd none
-  reads_no_more l at (stop.Refused why) k none = absurd none
+  pub reads_no_more : (l : Option (List ℕ)) (at : ℕ) (f : StreamStop) → IfKnown l (λ b. at ≤ length b) → CopiedPart usual w out out' l → IsNoEnd at f → Ended allows aad l w out out' (Err f)
+  reads_no_more l at (stop.Stopped (gating.Decode (de.Io e))) k c none = (known_as l _ _ (λ b p. λ ended. absurd (true≢false (sym ended ∙ none))) k, c)
+  reads_no_more l at (stop.Stopped (gating.Decode de.TooLong)) k c none = (known_as l _ _ (λ b p. omega (arith, p, none)) k, c)
+  reads_no_more l at (stop.Stopped (gating.Decode (de.Syntax p))) k c none = absurd none
+  reads_no_more l at (stop.Stopped (gating.Decode (de.Semantic p i))) k c none = absurd none
+  reads_no_more l at (stop.Stopped (gating.Decode de.RecursionLimitExceeded)) k c none = absurd none
+  reads_no_more l at (stop.Stopped (gating.Decode de.Memory)) k c none = absurd none
+  reads_no_more l at (stop.Stopped gating.Write) k c none = absurd none
+  reads_no_more l at (stop.Stopped gating.Memory) k c none = absurd none
+  reads_no_more l at (stop.NotBegun why) k c none = absurd none
+  reads_no_more l at (stop.Refused why) k c none = absurd none
 
 -- a text that was written, and handed on
 pub all_written : {W F : Type 0} (w : Writing W F) (out mid out' : W) (r : Result (Unit {0}) F) (text : List ℕ) → false ≡ is_err r → WritesAll w out mid r text
     → Keeps (w.written mid) (w.written out') → w.failed out' ≡ w.failed mid → (w.failed out' ≡ w.failed out) × Appends (w.written out) (w.written out') text
 all_written w out mid out' (Ok u) text e p k n = (n ∙ p.failed, Appends-kept (w.written out) (w.written mid) (w.written out') text p.ok k)
 all_written w out mid out' (Err x) text e p k n = absurd (true≢false (sym e))
+
+-- the writer failed, at the payload or when that was handed on
+pub failed_once : {W F : Type 0} (w : Writing W F) (out out' : W) (r : Result (Unit {0}) F) (text : List ℕ) → true ≡ is_err r → WritesAll w out out' r text → w.failed out' ≡ w.failed out + 1
+failed_once w out out' (Ok u) text e p = absurd (true≢false e)
+failed_once w out out' (Err x) text e p = p.failed
+
+pub failed_then : {W F : Type 0} (w : Writing W F) (out mid out' : W) (r : Result (Unit {0}) F) (text : List ℕ) → false ≡ is_err r → WritesAll w out mid r text → w.failed out' ≡ w.failed mid + 1 → w.failed out' ≡ w.failed out + 1
+failed_then w out mid out' (Ok u) text e p n = n ∙ ap (λ (k : ℕ). k + 1) p.failed
+failed_then w out mid out' (Err x) text e p n = absurd (true≢false (sym e))
 
 -- what a decoder has to read from a reader that it was just made of
 pub from_start : {S : Type 0} (left : S → Option (List ℕ)) (now input : S) (waiting : Option Header) → now ≡ input → waiting ≡ None → due (left now) waiting ≡ left input

@@ -1,6 +1,6 @@
 -- How the check of one message ends.
 use Rattle.std.specs.Prelude.{◌≡◌, ◌≢◌, ℕ, ◌+◌, ◌^◌, ◌≤◌, List, [], ◌++◌, length, Option, Some, Bool, true, false, Result, Ok, Err, is_none, if◌then◌else◌}
-use Rattle.std.specs.Io.KnownBytes.{Appends}
+use Rattle.std.specs.Io.KnownBytes.{Appends, Keeps}
 use Rattle.ciborium_ll.specs.declared.read.Read.{Ghosts as Reading}
 use Rattle.ciborium_ll.specs.declared.write.Write.{Ghosts as Writing}
 use Rattle.cose_gate.specs.Asked.{first_no}
@@ -15,7 +15,7 @@ use Rattle.cose_gate.specs.Questions.{Question, MessageFields, questions, payloa
 use Rattle.cose_gate.specs.ReadError.TheVariants as de
 use Rattle.cose_gate.specs.Reading.{IfKnown}
 use Rattle.cose_gate.specs.Stated.{IsSingle, Stated}
-use Rattle.cose_gate.specs.Streaming.{Tells, IsLongFor, Unstreamed, Why, untagged, tagged, shape, without_payload, without_length}
+use Rattle.cose_gate.specs.Streaming.{CopiedPart, Tells, IsLongFor, Unstreamed, Why, untagged, tagged, shape, without_payload, without_length}
 use Rattle.cose_gate.specs.Tree.{Tree}
 use Rattle.cose_gate.specs.declared.fault.StreamFault.{StreamFault}
 use Rattle.cose_gate.specs.declared.fault.StreamFault.TheVariants as fault
@@ -90,19 +90,26 @@ IsRefused allows aad left why =
     IfKnown left (λ b. (w : Why) × IsWhy why w × Unstreamed (length b) b w)
 
 -- how the check ends by this judge and external data: the whole input is such a message, the answer
--- is yes, and its payload was written; or what is said of the input is true
+-- is yes, and its payload was written; or what is said of the input is true, and nothing was written
+-- but a beginning of the payload. If the output failed, the last call may have been a flush, which
+-- changes nothing that was written.
 abbrev pub Ended : {W F : Type 0} → (Question → Bool) → List ℕ → Option (List ℕ) → Writing W F → W → W → Result (Unit {0}) StreamStop → Type 0
 Ended allows aad left w out out' (Ok u) =
     (payload front : List ℕ) × IsAnswered allows aad true payload front
     × IfKnown left (λ b. b ≡ front)
     × (w.failed out' ≡ w.failed out) × Appends (w.written out) (w.written out') payload
 Ended allows aad left w out out' (Err (stop.NotBegun why)) = ⊥
-Ended allows aad left w out out' (Err (stop.Refused why)) = IsRefused allows aad left why
+Ended allows aad left w out out' (Err (stop.Refused why)) =
+    IsRefused allows aad left why × CopiedPart usual w out out' left
 Ended allows aad left w out out' (Err (stop.Stopped (gating.Decode e))) =
     IfKnown left (λ b. Tells is_end (Unstreamed (length b) b) (IsLongFor 4096 0 b) (fault.Decode e))
-Ended allows aad left w out out' (Err (stop.Stopped gating.Write)) =
-    w.failed out' ≡ w.failed out + 1
-Ended allows aad left w out out' (Err (stop.Stopped gating.Memory)) = Unit {0}
+    × CopiedPart usual w out out' left
+Ended {W = W} allows aad left w out out' (Err (stop.Stopped gating.Write)) =
+    (w.failed out' ≡ w.failed out + 1)
+    × ((before : W) × CopiedPart usual w out before left
+    × Keeps (w.written before) (w.written out'))
+Ended allows aad left w out out' (Err (stop.Stopped gating.Memory)) =
+    CopiedPart usual w out out' left
 
 -- how often the input has failed after this end, if it had so often before
 abbrev pub failures_after : Result (Unit {0}) StreamStop → ℕ → ℕ

@@ -6,6 +6,7 @@ use Rattle.coset_headers.specs.Wrong.{WrongProtected, WrongHeader}
 use Rattle.cose_gate.specs.ElementFaults.{WrongPart, NoneWrong, NoBytes}
 use Rattle.cose_gate.proofs.Wrong.{first_tells, part_tells, protected_place, unprotected_place, signature_place, any_place, short_tells_part, close_tells, refused_tells}
 use Rattle.cose_gate.proofs.Heads.{four_tells, size_tells}
+use Rattle.cose_gate.proofs.CutOff.{copied_part}
 use Rattle.cose_gate.proofs.Whole.{within_start, within_more, part_is, paid, paid_within, checked, received_is, subject_is, question_is, in_pieces, asked_as}
 use Rattle.cose_gate_core.specs.Findings.{plain}
 use Rattle.cose_gate.proofs.Far.{far_more}
@@ -142,3 +143,35 @@ pub returns-in_err-close-clause-far : goal.returns-in_err-close-clause-far
 returns-in_err-close-clause-far g c =
     let p = err_from_is_err_and c.from_residual-in_err-close.result c.from_residual-in_err-close.ensures.1 in
     rw (p.1, p.2) (far_more 0 _ _ _ (omega arith) c.in_err-close.ensures.far)
+
+pub returns-in_err-written-clause-part : goal.returns-in_err-written-clause-part
+returns-in_err-written-clause-part g c =
+    let w0 = within_start (plain c.args.limits.nesting c.args.limits.layers) _ _ _ _ _ _ _ _ c.in_ok-form.ensures.ok c.in_ok-count.ensures.ok c.in_ok-count.ensures.is in
+    let a = part_is _ _ _ _ _ _ c.in_ok-protected.ensures.ok in
+    let b = part_is _ _ _ _ _ _ c.in_ok-unprotected.ensures.ok in
+    let w2 = within_more (plain c.args.limits.nesting c.args.limits.layers) _ _ _ _ _ _ _ _ _ _ (within_more (plain c.args.limits.nesting c.args.limits.layers) _ _ _ _ _ _ _ _ _ _ w0 a.1) b.1 in
+    copied_part g.W.Write (plain c.args.limits.nesting c.args.limits.layers) _ _ a.0 b.0 (protected_view c.in_ok-protected.protected, a.2) (header_view c.in_ok-unprotected.unprotected, b.2) _ _ _ _ _ _ _ _ _ w2 c.in_ok-size.ensures.ok c.in_err-written.ensures.part
+
+pub returns-in_err-signature-clause-part : goal.returns-in_err-signature-clause-part
+returns-in_err-signature-clause-part g c =
+    let w0 = within_start (plain c.args.limits.nesting c.args.limits.layers) _ _ _ _ _ _ _ _ c.in_ok-form.ensures.ok c.in_ok-count.ensures.ok c.in_ok-count.ensures.is in
+    let a = part_is _ _ _ _ _ _ c.in_ok-protected.ensures.ok in
+    let b = part_is _ _ _ _ _ _ c.in_ok-unprotected.ensures.ok in
+    let w2 = within_more (plain c.args.limits.nesting c.args.limits.layers) _ _ _ _ _ _ _ _ _ _ (within_more (plain c.args.limits.nesting c.args.limits.layers) _ _ _ _ _ _ _ _ _ _ w0 a.1) b.1 in
+    copied_part g.W.Write (plain c.args.limits.nesting c.args.limits.layers) _ _ a.0 b.0 (protected_view c.in_ok-protected.protected, a.2) (header_view c.in_ok-unprotected.unprotected, b.2) _ _ _ _ _ _ _ _ _ w2 c.in_ok-size.ensures.ok c.in_ok-written.ensures.part
+
+pub returns-in_err-close-clause-part : goal.returns-in_err-close-clause-part
+returns-in_err-close-clause-part g c =
+    let w0 = within_start (plain c.args.limits.nesting c.args.limits.layers) _ _ _ _ _ _ _ _ c.in_ok-form.ensures.ok c.in_ok-count.ensures.ok c.in_ok-count.ensures.is in
+    let a = part_is _ _ _ _ _ _ c.in_ok-protected.ensures.ok in
+    let b = part_is _ _ _ _ _ _ c.in_ok-unprotected.ensures.ok in
+    let w2 = within_more (plain c.args.limits.nesting c.args.limits.layers) _ _ _ _ _ _ _ _ _ _ (within_more (plain c.args.limits.nesting c.args.limits.layers) _ _ _ _ _ _ _ _ _ _ w0 a.1) b.1 in
+    copied_part g.W.Write (plain c.args.limits.nesting c.args.limits.layers) _ _ a.0 b.0 (protected_view c.in_ok-protected.protected, a.2) (header_view c.in_ok-unprotected.unprotected, b.2) _ _ _ _ _ _ _ _ _ w2 c.in_ok-size.ensures.ok c.in_ok-written.ensures.part
+
+pub returns-clause-part : goal.returns-clause-part
+returns-clause-part g c =
+    let w0 = within_start (plain c.args.limits.nesting c.args.limits.layers) _ _ _ _ _ _ _ _ c.in_ok-form.ensures.ok c.in_ok-count.ensures.ok c.in_ok-count.ensures.is in
+    let a = part_is _ _ _ _ _ _ c.in_ok-protected.ensures.ok in
+    let b = part_is _ _ _ _ _ _ c.in_ok-unprotected.ensures.ok in
+    let w2 = within_more (plain c.args.limits.nesting c.args.limits.layers) _ _ _ _ _ _ _ _ _ _ (within_more (plain c.args.limits.nesting c.args.limits.layers) _ _ _ _ _ _ _ _ _ _ w0 a.1) b.1 in
+    copied_part g.W.Write (plain c.args.limits.nesting c.args.limits.layers) _ _ a.0 b.0 (protected_view c.in_ok-protected.protected, a.2) (header_view c.in_ok-unprotected.unprotected, b.2) _ _ _ _ _ _ _ _ _ w2 c.in_ok-size.ensures.ok c.in_ok-written.ensures.part

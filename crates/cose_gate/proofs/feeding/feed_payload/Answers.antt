@@ -1,6 +1,7 @@
 use Rattle.std.proofs.Common.{rules, sym, ap, ◌∙◌, ◌≡◌, ◌<◌, ◌≤◌, length, arith}
 use Rattle.std.specs.Prelude.{min, take}
 use Rattle.cose_gate.proofs.Fed.{fed_more, begun_more, begun_all, take_front}
+use Rattle.cose_gate.proofs.CutOff.{copied_next}
 use Rattle.cose_gate.proofs.feeding.feed_payload.Goals as goal
 
 pub pieces-preserved : goal.pieces-preserved
@@ -27,3 +28,12 @@ pieces-preserved g c =
 
 pub returns-clause-pieces : goal.returns-clause-pieces
 returns-clause-pieces g c = begun_all _ _ _ _ _ c.pieces.invariant.pieces (omega arith)
+
+pub returns-in_err-read_exact-clause-part : goal.returns-in_err-read_exact-clause-part
+returns-in_err-read_exact-clause-part g c = copied_next g.W.Write g.J.Judge.holds _ _ _ _ c.pieces.written _ _ _ _ _ _ c.pieces.invariant.taken
+
+pub returns-in_err-feed-clause-part : goal.returns-in_err-feed-clause-part
+returns-in_err-feed-clause-part g c = copied_next g.W.Write g.J.Judge.holds _ _ _ _ c.pieces.written _ _ _ _ _ _ c.pieces.invariant.taken
+
+pub returns-clause-part : goal.returns-clause-part
+returns-clause-part g c = copied_next g.W.Write g.J.Judge.holds _ _ _ _ c.pieces.written _ _ _ _ _ _ c.pieces.invariant.taken
