@@ -8,11 +8,11 @@ ghost use Rattle.cose_gate_program.specs.Writing.{Wrote};
 
 use crate::ending::{Ending, end};
 use crate::not_run::NotRun;
-use crate::options::{Form, ask_arguments, read_aad};
+use crate::options::{Form, RunTerms, ask_arguments, read_aad, run_terms};
 use crate::question_writer::{Begun, QuestionWriter};
 use ciborium_ll::log::Log;
 use ciborium_ll::{Read, Write};
-use cose_gate_program::{Limits, Notice, Terms, run_told};
+use cose_gate_program::{Notice, run_told};
 use cose_gate_records::Nowhere;
 use std::alloc::Global;
 
@@ -41,32 +41,20 @@ pub fn ask<R: Read, W: Write, E: Write>(
         return Err(NotRun::Usage);
     };
     let aad = read_aad(alloc, arguments.aad)?;
-    let terms = Terms {
-        limits: Limits::default(),
-        strict: arguments.strict,
-    };
-    ask_by(
-        alloc,
-        terms,
-        arguments.form(),
-        aad.as_slice(),
-        input,
-        out,
-        err,
-    )
+    let run = run_terms(arguments.strict, aad.as_slice());
+    ask_by(alloc, run, arguments.form(), input, out, err)
 }
 
 /// Asks by these terms, and writes the questions in this form.
 fn ask_by<R: Read, W: Write, E: Write>(
     alloc: Global,
-    terms: Terms,
+    run: RunTerms<'_>,
     form: Form,
-    aad: &[u8],
     input: &mut R,
     out: &mut W,
     err: &mut E,
 ) -> Result<u8, NotRun>
-    ensures ran { Asked W.Write E.Write (limits_of terms) form aad.now
+    ensures ran { Asked W.Write E.Write (limits_of run.entry.terms) form run.entry.aad.now
         (reading R.Read input.old) (reading R.Read input.new)
         out.old out.new err.old err.new result }
     ensures kept { R.handle input.new ≡ R.handle input.old }
@@ -80,8 +68,8 @@ fn ask_by<R: Read, W: Write, E: Write>(
     let mut ending = Ending::new(err, &mut last, &mut said);
     let status = run_told(
         alloc,
-        terms,
-        aad,
+        run.terms,
+        run.aad,
         input,
         &mut Nowhere,
         &mut ending,

@@ -8,7 +8,6 @@ use crate::arguments::read_arguments;
 use crate::key_file::KeyFile;
 use crate::verbose::run_asked;
 use ciborium_ll::{Read, Write};
-use cose_gate_program::{Limits, Terms};
 use std::alloc::Global;
 
 /// The line for other arguments.
@@ -40,14 +39,10 @@ pub fn program<'a, R: Read, W: Write, E: Write>(
         let _ = err.flush();
         return 2;
     };
-    let terms = Terms {
-        limits: Limits::default(),
-        strict: asked.strict,
-    };
     let file = KeyFile {
         name: asked.keys,
         bytes: keys,
         fault,
     };
-    run_asked(alloc, terms, asked, file, input, out, err)
+    run_asked(alloc, asked, file, input, out, err)
 }

@@ -1,15 +1,18 @@
-//! The arguments of `cose-ask` and `cose-pass`.
+//! The arguments of `cose-ask` and `cose-pass`, and what a run goes by.
 ghost use Rattle.std.specs.Prelude.{◌≡◌, ℕ, List, ◌∷◌, None, MatchResult, if◌then◌else◌};
 ghost use Rattle.std.specs.Prelude.{map, option_map, option_copied, string_bytes, Some};
+ghost use Rattle.cose_gate_core.specs.Terms.{limits_of};
 ghost use Rattle.cose_gate_program.specs.Beginning.{aad_of};
 ghost use Rattle.cose_gate_command.specs.Arguments as spec;
 ghost use Rattle.cose_gate_command.specs.Arguments.{ask_view, pass_view};
 ghost use Rattle.cose_gate_command.specs.Asking.{IsNoAad};
+ghost use Rattle.cose_gate_command.specs.Ends.{bounds_by};
 ghost use Rattle.cose_gate_command.specs.Lines.{form_of};
 ghost use Rattle.cose_gate_command.specs.Options.{asks_after};
 
 use crate::arguments::{is_option, read_arguments};
 use crate::not_run::NotRun;
+use cose_gate_program::{Limits, Terms};
 use hex::FromHexError;
 use std::alloc::Global;
 
@@ -132,4 +135,25 @@ pub(crate) fn read_aad(alloc: Global, aad: Option<&str>) -> Result<Vec<u8>, NotR
         Err(FromHexError::OutOfMemory) => Err(NotRun::Memory),
         Err(_) => Err(NotRun::NotHex),
     }
+}
+
+/// What a run goes by.
+#[derive(Clone, Copy)]
+pub(crate) struct RunTerms<'a> {
+    /// The limits, and whether the gate is strict.
+    pub(crate) terms: Terms,
+    /// The external data.
+    pub(crate) aad: &'a [u8],
+}
+
+/// The limits that no arguments choose, whether the gate is strict, and this external data.
+pub(crate) fn run_terms(strict: bool, aad: &[u8]) -> RunTerms<'_>
+    ensures terms { limits_of result.terms ≡ bounds_by strict }
+    ensures aad { result.aad.now ≡ aad.now }
+{
+    let terms = Terms {
+        limits: Limits::default(),
+        strict,
+    };
+    RunTerms { terms, aad }
 }

@@ -7,9 +7,9 @@ ghost use Rattle.cose_gate_program.specs.Program.{devices_of};
 
 use crate::accepted::read_accepted;
 use crate::not_run::NotRun;
-use crate::options::{pass_arguments, read_aad};
+use crate::options::{RunTerms, pass_arguments, read_aad, run_terms};
 use ciborium_ll::{Read, Write};
-use cose_gate_program::{Limits, Terms, run_judged};
+use cose_gate_program::run_judged;
 use cose_gate_records::Accepted;
 use std::alloc::Global;
 
@@ -43,32 +43,20 @@ pub fn pass<R: Read, W: Write, E: Write>(
     };
     let aad = read_aad(alloc, arguments.aad)?;
     let records = read_accepted(alloc, accepted)?;
-    let terms = Terms {
-        limits: Limits::default(),
-        strict: arguments.strict,
-    };
-    pass_by(
-        alloc,
-        terms,
-        records.as_slice(),
-        aad.as_slice(),
-        input,
-        out,
-        err,
-    )
+    let run = run_terms(arguments.strict, aad.as_slice());
+    pass_by(alloc, run, records.as_slice(), input, out, err)
 }
 
 /// Passes the messages whose questions have these records, by these terms.
 fn pass_by<R: Read, W: Write, E: Write>(
     alloc: Global,
-    terms: Terms,
+    run: RunTerms<'_>,
     records: &[u8],
-    aad: &[u8],
     input: &mut R,
     out: &mut W,
     err: &mut E,
 ) -> Result<u8, NotRun>
-    ensures ran { Passed E.Write (limits_of terms) records.now aad.now
+    ensures ran { Passed E.Write (limits_of run.entry.terms) records.now run.entry.aad.now
         (devices_of R.Read W.Write input.old out.old)
         (devices_of R.Read W.Write input.new out.new) err.old err.new result }
     ensures kept { R.handle input.new ≡ R.handle input.old }
@@ -81,5 +69,5 @@ fn pass_by<R: Read, W: Write, E: Write>(
         return Err(NotRun::NoRecords);
     };
     let mut judge = judge;
-    Ok(run_judged(alloc, terms, aad, input, out, err, &mut judge))
+    Ok(run_judged(alloc, run.terms, run.aad, input, out, err, &mut judge))
 }

@@ -1,21 +1,21 @@
 //! The run, with `--verbose` and `--quiet` or without.
 ghost use Rattle.std.specs.Prelude.{◌≡◌, ◌∷◌, [], option_copied};
-ghost use Rattle.cose_gate_core.specs.Terms.{limits_of};
 ghost use Rattle.cose_gate_program.specs.Beginning.{aad_of, status_of};
 ghost use Rattle.cose_gate_program.specs.Judge.{says_yes};
 ghost use Rattle.cose_gate_program.specs.Program.{devices_of};
 ghost use Rattle.cose_gate_program.specs.Telling.{EndsTold};
 ghost use Rattle.cose_gate_program.specs.declared.telling.Notice.TheVariants as notice;
+ghost use Rattle.cose_gate_command.specs.Ends.{bounds_by};
 ghost use Rattle.cose_gate_command.specs.Said.{Says};
 
 use crate::arguments::Arguments;
 use crate::counted::Counted;
 use crate::explained::{Explained, Note, Reasons};
 use crate::key_file::{KeyFile, say_not_begun, write_reason};
+use crate::options::{RunTerms, run_terms};
 use crate::said::{Manner, Said, Sources};
 use ciborium_ll::log::Log;
 use ciborium_ll::{Read, Write};
-use cose_gate_core::Terms;
 use cose_gate_program::{CoseKeySet, HmacJudge, NotBegun, Notice, begin, run_told, write_notice};
 use std::alloc::Global;
 use std::cell::{Cell, RefCell};
@@ -64,14 +64,13 @@ fn end_unbegun<E: Write>(
 /// both call into one function, and each message would take up to 6 % more instructions.
 pub(crate) fn run_asked<'f, 'd, R: Read, W: Write, E: Write>(
     alloc: Global,
-    terms: Terms,
     asked: Arguments<'d>,
     file: KeyFile<'f>,
     input: &mut R,
     out: &mut W,
     err: &mut E,
 ) -> u8
-    ensures ran { EndsTold (limits_of terms) says_yes (option_copied file.entry.bytes)
+    ensures ran { EndsTold (bounds_by asked.entry.strict) says_yes (option_copied file.entry.bytes)
         (aad_of (option_copied asked.entry.aad))
         (devices_of R.Read W.Write input.old out.old)
         (devices_of R.Read W.Write input.new out.new) result
@@ -95,7 +94,7 @@ pub(crate) fn run_asked<'f, 'd, R: Read, W: Write, E: Write>(
     match begin(alloc, file.bytes, asked.aad) {
         Ok(beginning) => {
             let judge = HmacJudge::prepared(alloc, &beginning.keys);
-            let aad = beginning.aad.as_slice();
+            let RunTerms { terms, aad } = run_terms(asked.strict, beginning.aad.as_slice());
             let mut teller = Said::new(err, manner, &sources, &was, &mut told);
             let reasons = asked_reasons(asked.verbose, alloc, &beginning.keys, aad.len(), &note);
             let mut judge = Explained { judge, reasons };

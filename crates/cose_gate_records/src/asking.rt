@@ -9,35 +9,26 @@ use crate::choice::Choice;
 use crate::lines::stop_for_memory;
 use crate::nowhere::Nowhere;
 use crate::placing::{place, place_none};
-use crate::running::run_with_judge;
-use cose_gate_program::Terms;
+use crate::running::{RunTerms, run_with_judge};
 use std::alloc::Global;
 
 /// Asks by these terms.
 fn ask_within(
     alloc: Global,
-    terms: Terms,
-    aad: &[u8],
+    run: RunTerms<'_>,
     input: &[u8],
     questions: &mut [u8],
     lines: &mut [u8],
 ) -> Answer
     ensures { (written : List ℕ) × (status : ℕ)
-        × Told (limits_of terms) aad.now input.now «lines».new result.lines written status
+        × Told (limits_of run.entry.terms) run.entry.aad.now input.now
+        «lines».new result.lines written status
         × Places written status «questions».old «questions».new result }
 {
     let mut reader = input;
     let mut nowhere = Nowhere;
     let mut asker = Asker::new(alloc);
-    let ended = run_with_judge(
-        alloc,
-        terms,
-        aad,
-        &mut reader,
-        &mut nowhere,
-        lines,
-        &mut asker,
-    );
+    let ended = run_with_judge(alloc, run, &mut reader, &mut nowhere, lines, &mut asker);
     match asker.records() {
         Some(records) => place(questions, records, ended.status, ended.end),
         None => place_none(questions, 4, stop_for_memory(lines, ended.last)),
@@ -69,7 +60,7 @@ pub fn ask(
         (buffers «questions».old «lines».old) (buffers «questions».new «lines».new) result }
 {
     match choice.terms() {
-        Some(terms) => ask_within(alloc, terms, aad, input, questions, lines),
+        Some(terms) => ask_within(alloc, RunTerms { terms, aad }, input, questions, lines),
         None => no_limits(),
     }
 }

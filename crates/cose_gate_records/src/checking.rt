@@ -8,28 +8,26 @@ use crate::choice::Choice;
 use crate::growing::Growing;
 use crate::lines::stop_for_memory;
 use crate::placing::{place, place_none};
-use crate::running::run_with_keys;
-use cose_gate_program::Terms;
+use crate::running::{RunTerms, run_with_keys};
 use std::alloc::Global;
 
 /// Runs the gate by these terms.
 fn check_within(
     alloc: Global,
-    terms: Terms,
+    run: RunTerms<'_>,
     keys: &[u8],
-    aad: &[u8],
     input: &[u8],
     out: &mut [u8],
     lines: &mut [u8],
 ) -> Answer
     ensures { (written : List ℕ) × (status : ℕ)
-        × Checked (limits_of terms) keys.now aad.now input.now «lines».new result.lines
-        written status
+        × Checked (limits_of run.entry.terms) keys.now run.entry.aad.now input.now
+        «lines».new result.lines written status
         × Places written status «out».old «out».new result }
 {
     let mut reader = input;
     let mut output = Growing::new(alloc);
-    let ended = run_with_keys(alloc, terms, keys, aad, &mut reader, &mut output, lines);
+    let ended = run_with_keys(alloc, run, keys, &mut reader, &mut output, lines);
     if output.is_refused() {
         return place_none(out, 4, stop_for_memory(lines, ended.last));
     }
@@ -60,7 +58,7 @@ pub fn check(
         (buffers «out».old «lines».old) (buffers «out».new «lines».new) result }
 {
     match choice.terms() {
-        Some(terms) => check_within(alloc, terms, keys, aad, input, out, lines),
+        Some(terms) => check_within(alloc, RunTerms { terms, aad }, keys, input, out, lines),
         None => no_limits(),
     }
 }

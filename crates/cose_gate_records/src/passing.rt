@@ -10,37 +10,27 @@ use crate::choice::Choice;
 use crate::growing::Growing;
 use crate::lines::{STOPPED, lone_line, stop_for_memory};
 use crate::placing::{place, place_none};
-use crate::running::run_with_judge;
-use cose_gate_program::Terms;
+use crate::running::{RunTerms, run_with_judge};
 use std::alloc::Global;
 
 /// Passes what this judge accepts.
 fn pass_by(
     alloc: Global,
-    terms: Terms,
+    run: RunTerms<'_>,
     judge: Accepted,
-    aad: &[u8],
     input: &[u8],
     out: &mut [u8],
     lines: &mut [u8],
 ) -> Answer
     ensures { (written : List ℕ) × (status : ℕ)
-        × RanBy (limits_of terms) (keys_of judge.entry) aad.now input.now «lines».new result.lines
-        written status
+        × RanBy (limits_of run.entry.terms) (keys_of judge.entry) run.entry.aad.now input.now
+        «lines».new result.lines written status
         × Places written status «out».old «out».new result }
 {
     let mut judge = judge;
     let mut reader = input;
     let mut output = Growing::new(alloc);
-    let ended = run_with_judge(
-        alloc,
-        terms,
-        aad,
-        &mut reader,
-        &mut output,
-        lines,
-        &mut judge,
-    );
+    let ended = run_with_judge(alloc, run, &mut reader, &mut output, lines, &mut judge);
     if output.is_refused() {
         return place_none(out, 4, stop_for_memory(lines, ended.last));
     }
@@ -50,23 +40,22 @@ fn pass_by(
 /// Passes what was accepted, by these terms.
 fn pass_within(
     alloc: Global,
-    terms: Terms,
+    run: RunTerms<'_>,
     accepted: &[u8],
-    aad: &[u8],
     input: &[u8],
     out: &mut [u8],
     lines: &mut [u8],
 ) -> Answer
     ensures { (written : List ℕ) × (status : ℕ)
-        × Passed (limits_of terms) accepted.now aad.now input.now «lines».new result.lines
-        written status
+        × Passed (limits_of run.entry.terms) accepted.now run.entry.aad.now input.now
+        «lines».new result.lines written status
         × Places written status «out».old «out».new result }
 {
     let Ok(judge) = Accepted::new(alloc, accepted) else {
         return place_none(out, 4, lone_line(lines, STOPPED));
     };
     match judge {
-        Some(judge) => pass_by(alloc, terms, judge, aad, input, out, lines),
+        Some(judge) => pass_by(alloc, run, judge, input, out, lines),
         None => place_none(out, 3, lone_line(lines, b"accepted: no records\n")),
     }
 }
@@ -90,7 +79,7 @@ pub fn pass(
         (buffers «out».old «lines».old) (buffers «out».new «lines».new) result }
 {
     match choice.terms() {
-        Some(terms) => pass_within(alloc, terms, accepted, aad, input, out, lines),
+        Some(terms) => pass_within(alloc, RunTerms { terms, aad }, accepted, input, out, lines),
         None => no_limits(),
     }
 }

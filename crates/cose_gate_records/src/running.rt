@@ -12,6 +12,15 @@ use cose_gate_core::Judge;
 use cose_gate_program::{Terms, run_over_told, run_told};
 use std::alloc::Global;
 
+/// What a run goes by.
+#[derive(Clone, Copy)]
+pub(crate) struct RunTerms<'a> {
+    /// The limits, and whether the gate is strict.
+    pub(crate) terms: Terms,
+    /// The external data.
+    pub(crate) aad: &'a [u8],
+}
+
 /// How a run ended: its status, where its last line begins, and where all lines end.
 #[derive(Debug, Clone, Copy, PartialEq, Eq)]
 pub(crate) struct Ended {
@@ -23,20 +32,20 @@ pub(crate) struct Ended {
 /// The run under the key set of these bytes.
 pub(crate) fn run_with_keys<R: Read, W: Write>(
     alloc: Global,
-    terms: Terms,
+    run: RunTerms<'_>,
     keys: &[u8],
-    aad: &[u8],
     input: &mut R,
     out: &mut W,
     lines: &mut [u8],
 ) -> Ended
-    ensures { EndsTold (limits_of terms) says_yes (Some keys.now) (Some aad.now)
+    ensures { EndsTold (limits_of run.entry.terms) says_yes
+        (Some keys.now) (Some run.entry.aad.now)
         (devices_of R.Read W.Write input.old out.old)
         (devices_of R.Read W.Write input.new out.new) result.status
         (AreLinesWithLast «lines».new result.last result.end) }
 {
     let mut told = Lines::new(lines);
-    let status = run_over_told(alloc, terms, keys, aad, input, out, &mut told);
+    let status = run_over_told(alloc, run.terms, keys, run.aad, input, out, &mut told);
     Ended {
         status,
         last: told.last(),
@@ -47,20 +56,19 @@ pub(crate) fn run_with_keys<R: Read, W: Write>(
 /// The run with this judge.
 pub(crate) fn run_with_judge<R: Read, W: Write, J: Judge>(
     alloc: Global,
-    terms: Terms,
-    aad: &[u8],
+    run: RunTerms<'_>,
     input: &mut R,
     out: &mut W,
     lines: &mut [u8],
     judge: &mut J,
 ) -> Ended
-    ensures { RanTold (limits_of terms) (J.yes (J.who judge.old)) aad.now
+    ensures { RanTold (limits_of run.entry.terms) (J.yes (J.who judge.old)) run.entry.aad.now
         (devices_of R.Read W.Write input.old out.old)
         (devices_of R.Read W.Write input.new out.new) result.status
         (hears J.Judge judge.old judge.new) (AreLinesWithLast «lines».new result.last result.end) }
 {
     let mut told = Lines::new(lines);
-    let status = run_told(alloc, terms, aad, input, out, &mut told, judge);
+    let status = run_told(alloc, run.terms, run.aad, input, out, &mut told, judge);
     Ended {
         status,
         last: told.last(),

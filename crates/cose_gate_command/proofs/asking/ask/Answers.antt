@@ -3,7 +3,6 @@ use Rattle.std.specs.Prelude.{option_map}
 use Rattle.std.proofs.lemmas.Result.{err_from_is_err_and}
 use Rattle.cose_gate_command.specs.Arguments.{ask_view}
 use Rattle.cose_gate_command.specs.Asking.{not_run, after_run}
-use Rattle.cose_gate_command.proofs.Ends.{usually}
 use Rattle.cose_gate_command.proofs.NotRuns.{asks_usage, asks_not}
 use Rattle.cose_gate_command.proofs.asking.ask.Goals as goal
 
@@ -17,4 +16,4 @@ returns-in_err-aad-clause-ran g c =
 
 pub returns-clause-ran : goal.returns-clause-ran
 returns-clause-ran g c = after_run (ask_view c.in-Some.arguments) (sym c.ask_arguments.ensures ∙ ap (option_map ask_view) c.in-Some.is) _ c.in_ok-aad.ensures
-    (rw c.as_slice.ensures.value at (rw c.form.ensures at (rw (usually c.default.result c.in-Some.arguments.strict c.default.ensures) at c.ask_by.ensures.ran)))
+    (rw c.as_slice.ensures.value at (rw c.form.ensures at (rw (c.run_terms-run.ensures.terms, c.run_terms-run.ensures.aad) at c.ask_by.ensures.ran)))

@@ -39,7 +39,7 @@ returns-clause-lent g c =
     let v = c.new-writer.result in
     let w = c.run_told-status.new.judge in
     let ran = c.run_told-status.ensures.ran in
-    let qs = asked_in (λ (q : Question). true) c.args.aad.now ran.run in
+    let qs = asked_in (λ (q : Question). true) c.args.run.aad.now ran.run in
     let name : w.out.ghost_name ≡ _ = told_name g.W.Write v.out.ghost_name w.out.ghost_name v.was.items w.was.items v.form w.form
     (map parts_in v.told.now.items) (map parts_in w.told.now.items) qs ran.asked ∙ c.new-writer.ensures.kept in
     same_handle g.W.Write _ _ _ w.written _ _

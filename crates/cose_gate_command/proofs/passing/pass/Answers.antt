@@ -3,7 +3,6 @@ use Rattle.std.specs.Prelude.{option_map}
 use Rattle.std.proofs.lemmas.Result.{err_from_is_err_and}
 use Rattle.cose_gate_command.specs.Arguments.{pass_view}
 use Rattle.cose_gate_command.specs.Passing.{not_run, after_run}
-use Rattle.cose_gate_command.proofs.Ends.{usually}
 use Rattle.cose_gate_command.proofs.NotRuns.{passes_usage, passes_no_file, passes_no_aad, passes_no_records}
 use Rattle.cose_gate_command.proofs.passing.pass.Goals as goal
 
@@ -30,4 +29,4 @@ returns-in_err-records-clause-ran g c =
 pub returns-clause-ran : goal.returns-clause-ran
 returns-clause-ran g c = after_run (pass_view c.in-Some.arguments) (sym c.pass_arguments.ensures ∙ ap (option_map pass_view) c.in-Some.is) _ c.in_ok-aad.ensures _ _
     (ap (option_map (λ bytes. bytes.items)) c.in-Some-accepted.is) c.in_ok-records.ensures
-    (rw c.as_slice.ensures.value at (rw c.as_slice-2.ensures.value at (rw (usually c.default.result c.in-Some.arguments.strict c.default.ensures) at c.pass_by.ensures.ran)))
+    (rw c.as_slice.ensures.value at (rw c.as_slice-2.ensures.value at (rw (c.run_terms-run.ensures.terms, c.run_terms-run.ensures.aad) at c.pass_by.ensures.ran)))

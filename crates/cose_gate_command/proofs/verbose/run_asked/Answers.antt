@@ -12,8 +12,8 @@ pub returns-in-Ok-clause-ran : goal.returns-in-Ok-clause-ran
 returns-in-Ok-clause-ran g c =
     let b = c.in-Ok.ensures in
     lent_on _ _ _ _ _ _ _ _ _ _ _ _ _ _ _ (search rules) (search rules) (search rules) (search rules)
-    (began _ _ _ _ _ b.1 b.2 b.3 c.as_slice-aad.ensures.value c.prepared-judge.ensures
-    (plain_run g.E.Write _ _ c.args.asked.verbose c.args.asked.quiet _ (option_copied c.args.file.bytes) (ran_as c.run_told.ensures.ran (λ qs asked. asked) (λ ns last told.
+    (began _ _ _ _ _ b.1 b.2 b.3 (c.run_terms.ensures.aad ∙ c.as_slice.ensures.value) c.prepared-judge.ensures
+    (plain_run g.E.Write _ _ c.args.asked.verbose c.args.asked.quiet _ (option_copied c.args.file.bytes) (ran_as (rw c.run_terms.ensures.terms at c.run_told.ensures.ran) (λ qs asked. asked) (λ ns last told.
     let all = ns ++ last ∷ [] in
     let said = c.run_told.new.teller in
     let name : said.out.ghost_name ≡ _ = same_writer _ _ all told ∙ c.new-teller.ensures.kept in
