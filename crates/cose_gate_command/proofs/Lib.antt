@@ -7,5 +7,5 @@ pub mod Keys
 pub mod NotRuns
 pub mod Reasons
 pub mod RecordLine
-pub mod SaidLines
+pub mod RunLines
 pub mod Sending

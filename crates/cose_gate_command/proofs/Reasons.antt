@@ -18,8 +18,8 @@ use Rattle.cose_gate_program.specs.declared.telling.Notice.{Notice}
 use Rattle.cose_gate_program.specs.declared.telling.Notice.TheVariants.{Item, NotBegun}
 use Rattle.cose_gate_program.proofs.Written.{wrote_then}
 use Rattle.cose_gate_command.specs.KeyFiles.{reason_line}
-use Rattle.cose_gate_command.specs.Said.{Adds, Says, SaysSince, line_with, shown}
-use Rattle.cose_gate_command.specs.Said.Among.{nothing, line, more}
+use Rattle.cose_gate_command.specs.RunLines.{Adds, Says, SaysSince, line_with, shown}
+use Rattle.cose_gate_command.specs.RunLines.Among.{nothing, line, more}
 
 plain_last : (fault : List ℕ) (keys : Option (List ℕ)) (quiet : Bool) (r : Result Count (GateFault InputFault)) (flushed : Bool)
     → line_with fault keys quiet (last_of r flushed) ≡ shown quiet (last_of r flushed)

@@ -9,7 +9,7 @@ use Rattle.cose_gate_program.specs.Telling.{EndsTold}
 use Rattle.cose_gate_program.specs.Writing.{Wrote}
 use Rattle.coset_labels.specs.Limits.{nesting, layers}
 use Rattle.cose_gate_command.specs.Arguments.{Arguments}
-use Rattle.cose_gate_command.specs.Said.{Says}
+use Rattle.cose_gate_command.specs.RunLines.{Says}
 
 -- the limits if none are chosen, of the gate or of the strict gate
 abbrev pub bounds_by : Bool → Bounds

@@ -8,6 +8,6 @@ pub mod Lines
 pub mod Options
 pub mod Passing
 pub mod Read
-pub mod Said
+pub mod RunLines
 pub mod Waiting
 pub mod Written

@@ -3,7 +3,7 @@ ghost use Rattle.std.specs.Prelude.{◌≡◌, option_copied, true};
 ghost use Rattle.std.specs.List.{list_all};
 ghost use Rattle.cose_gate_program.specs.Writing.{Wrote};
 ghost use Rattle.cose_gate_command.specs.KeyFiles as spec;
-ghost use Rattle.cose_gate_command.specs.Said.{Adds};
+ghost use Rattle.cose_gate_command.specs.RunLines.{Adds};
 ghost use Rattle.cose_reasons.specs.Texts.{is_of_base64, is_of_hex};
 
 use crate::more::{flush, write_indented, write_more};

@@ -13,6 +13,7 @@ mod explained;
 mod fields;
 mod framing;
 mod key_file;
+mod line_writer;
 mod lines;
 mod more;
 mod not_run;
@@ -21,7 +22,6 @@ mod parts;
 mod passing;
 mod question;
 mod question_writer;
-mod said;
 mod starting;
 mod verbose;
 

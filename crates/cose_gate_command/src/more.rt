@@ -2,8 +2,8 @@
 ghost use Rattle.std.specs.Prelude.{◌≡◌, [], ◌++◌, true};
 ghost use Rattle.cose_gate_program.specs.Writing.{Wrote};
 ghost use Rattle.cose_gate_command.specs.KeyFiles.{indented};
-ghost use Rattle.cose_gate_command.specs.Said as spec;
-ghost use Rattle.cose_gate_command.specs.Said.{Adds};
+ghost use Rattle.cose_gate_command.specs.RunLines as spec;
+ghost use Rattle.cose_gate_command.specs.RunLines.{Adds};
 
 use crate::explained::Note;
 use ciborium_ll::Write;

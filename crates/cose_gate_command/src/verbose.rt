@@ -6,14 +6,14 @@ ghost use Rattle.cose_gate_program.specs.Program.{devices_of};
 ghost use Rattle.cose_gate_program.specs.Telling.{EndsTold};
 ghost use Rattle.cose_gate_program.specs.declared.telling.Notice.TheVariants as notice;
 ghost use Rattle.cose_gate_command.specs.Ends.{bounds_by};
-ghost use Rattle.cose_gate_command.specs.Said.{Says};
+ghost use Rattle.cose_gate_command.specs.RunLines.{Says};
 
 use crate::arguments::Arguments;
 use crate::counted::Counted;
 use crate::explained::{Explained, Note, Reasons};
 use crate::key_file::{KeyFile, say_not_begun, write_reason};
+use crate::line_writer::{LineWriter, Manner, Sources};
 use crate::options::{RunTerms, run_terms};
-use crate::said::{Manner, Said, Sources};
 use ciborium_ll::log::Log;
 use ciborium_ll::{Read, Write};
 use cose_gate_program::{CoseKeySet, HmacJudge, NotBegun, Notice, begin, run_told, write_notice};
@@ -95,7 +95,7 @@ pub(crate) fn run_asked<'f, 'd, R: Read, W: Write, E: Write>(
         Ok(beginning) => {
             let judge = HmacJudge::prepared(alloc, &beginning.keys);
             let RunTerms { terms, aad } = run_terms(asked.strict, beginning.aad.as_slice());
-            let mut teller = Said::new(err, manner, &sources, &was, &mut told);
+            let mut teller = LineWriter::new(err, manner, &sources, &was, &mut told);
             let reasons = asked_reasons(asked.verbose, alloc, &beginning.keys, aad.len(), &note);
             let mut judge = Explained { judge, reasons };
             let mut input = Counted {

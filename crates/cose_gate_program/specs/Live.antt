@@ -8,10 +8,10 @@ use Rattle.cose_gate_core.specs.declared.report.Report.{Ghosts as Reports}
 use Rattle.cose_gate_program.specs.LentTeller.{LentTeller}
 use Rattle.cose_gate_program.specs.declared.telling.Notice.TheVariants.{Item}
 use Rattle.cose_gate_program.specs.declared.telling.Teller.{Ghosts as Tells}
-use Rattle.cose_gate_program.specs.declared.telling.Told.{Told}
+use Rattle.cose_gate_program.specs.declared.telling.TellerReport.{TellerReport}
 
 -- what a report that hands items on keeps; `T.Teller` is what the bound of its teller brings
-abbrev pub reports_to : {T : Type 0} (t : Tells T) → Reports (Told T)
+abbrev pub reports_to : {T : Type 0} (t : Tells T) → Reports (TellerReport T)
 reports_to t = record {
   State = LentTeller t.State;
   state = λ told. record { name = told.teller.ghost_name; state = t.state told.teller.now };

@@ -18,7 +18,7 @@ use crate::beginning::{begin, read_keys};
 use crate::devices::{Input, InputFault, Output, OutputFault};
 use crate::judge::HmacJudge;
 use crate::lines::{Lines, write_notice};
-use crate::telling::{Notice, Teller, Told};
+use crate::telling::{Notice, Teller, TellerReport};
 use crate::whole::is_whole;
 use ciborium_ll::log::Log;
 use ciborium_ll::{Decoder, Read, Write};
@@ -57,7 +57,7 @@ fn gate_live<R: Read, W: Write, T: Teller, J: Judge>(
     aad: &[u8],
     decoder: &mut Decoder<R>,
     out: &mut W,
-    report: &mut Told<'_, T>,
+    report: &mut TellerReport<'_, T>,
     judge: &mut J,
 ) -> Result<Counts, GateFault<R::Error>>
     requires { waiting_of decoder.old ≡ None }
@@ -115,7 +115,7 @@ fn gate_told<R: Read, W: Write, T: Teller, J: Judge>(
 {
     let mut decoder = Decoder::from(Input { reader: input });
     let mut output = Output { writer: out };
-    let mut report = Told { teller };
+    let mut report = TellerReport { teller };
     gate_live(
         alloc,
         terms,

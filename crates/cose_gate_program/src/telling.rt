@@ -46,11 +46,11 @@ pub trait Teller {
 
 /// A report that hands each item on.
 #[derive(Drop)]
-pub(crate) struct Told<'a, T> {
+pub(crate) struct TellerReport<'a, T> {
     pub(crate) teller: &'a mut T,
 }
 
-impl<'a, T: Teller> Report for Told<'a, T> {
+impl<'a, T: Teller> Report for TellerReport<'a, T> {
     ghost State = { LentTeller T.State };
 
     ghost state = { λ t. record { name = t.teller.ghost_name; state = T.state t.teller.now } };

@@ -5,35 +5,35 @@ use Rattle.cose_gate_core.specs.Asked.{folded_over}
 use Rattle.cose_gate_program.specs.Lines.{line_of, lines_of}
 use Rattle.cose_gate_program.specs.declared.telling.Notice.{Notice}
 use Rattle.cose_gate_program.proofs.Tellings.{folded_then}
-use Rattle.cose_gate_records.specs.Lines.{IsShown, counted, stopped, AreLinesWithLast, AreLinesThenMemory, Said}
+use Rattle.cose_gate_records.specs.Lines.{IsShown, counted, stopped, AreLinesWithLast, AreLinesThenMemory, LineLog}
 
-abbrev says : Said → Notice → Said
+abbrev says : LineLog → Notice → LineLog
 says s notice = record { name = s.name; text = s.text ++ line_of notice; last = counted s.text }
 
-name_over : (s : Said) (ns : List Notice) → (folded_over says s ns).name ≡ s.name
+name_over : (s : LineLog) (ns : List Notice) → (folded_over says s ns).name ≡ s.name
 name_over s [] = refl
 name_over s (n ∷ ns) = name_over (says s n) ns
 
-text_over : (s : Said) (ns : List Notice) → (folded_over says s ns).text ≡ s.text ++ lines_of ns
+text_over : (s : LineLog) (ns : List Notice) → (folded_over says s ns).text ≡ s.text ++ lines_of ns
 text_over s [] = sym (append-nil s.text)
 text_over s (n ∷ ns) = text_over (says s n) ns ∙ append_assoc s.text (line_of n) (lines_of ns)
 
-last_line : (s : Said) (done : List Notice) (last : Notice) → (folded_over says s (done ++ last ∷ [])).last ≡ counted (s.text ++ lines_of done)
-last_line s done last = ap (λ (z : Said). z.last) (folded_then says s done last) ∙ ap counted (text_over s done)
+last_line : (s : LineLog) (done : List Notice) (last : Notice) → (folded_over says s (done ++ last ∷ [])).last ≡ counted (s.text ++ lines_of done)
+last_line s done last = ap (λ (z : LineLog). z.last) (folded_then says s done last) ∙ ap counted (text_over s done)
 
-module _ (s s' : Said) (ns : List Notice) (e : s' ≡ folded_over says s ns) where
+module _ (s s' : LineLog) (ns : List Notice) (e : s' ≡ folded_over says s ns) where
   -- they are in the same buffer
   pub same_buffer : s'.name ≡ s.name
-  same_buffer = ap (λ (z : Said). z.name) e ∙ name_over s ns
+  same_buffer = ap (λ (z : LineLog). z.name) e ∙ name_over s ns
 
   -- all of their text
   pub all_told : s.text ≡ [] → s'.text ≡ lines_of ns
-  all_told none = ap (λ (z : Said). z.text) e ∙ (text_over s ns ∙ ap (λ (z : List ℕ). z ++ lines_of ns) none)
+  all_told none = ap (λ (z : LineLog). z.text) e ∙ (text_over s ns ∙ ap (λ (z : List ℕ). z ++ lines_of ns) none)
 
   -- where the last one begins
   pub last_told : s.text ≡ [] → (done : List Notice) (last : Notice) → ns ≡ done ++ last ∷ [] → s'.last ≡ counted (lines_of done)
   last_told none done last parts =
-      ap (λ (z : Said). z.last) (e ∙ ap (folded_over says s) parts)
+      ap (λ (z : LineLog). z.last) (e ∙ ap (folded_over says s) parts)
       ∙ (last_line s done last ∙ ap (λ (z : List ℕ). counted (z ++ lines_of done)) none)
 
 -- the last line was replaced

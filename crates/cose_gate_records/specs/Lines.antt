@@ -44,7 +44,7 @@ AreLinesThenMemory buffer count notices = (done : List Notice) × (last : Notice
     × (notices ≡ done ++ last ∷ []) × AreLines (lines_of done ++ stopped) buffer count
 
 -- what lines in a buffer that is lent keep: all of their text, and where the last one begins
-pub record Said : Type 0 where
+pub record LineLog : Type 0 where
   pub name : ℕ
   pub text : List ℕ
   pub last : ℕ

@@ -97,10 +97,10 @@ impl<'a> Write for Lines<'a> {
 
 impl<'a> Teller for Lines<'a> {
     ghost use Rattle.cose_gate_program.specs.Lines.{line_of};
-    ghost use Rattle.cose_gate_records.specs.Lines.{Said};
+    ghost use Rattle.cose_gate_records.specs.Lines.{LineLog};
     ghost use Rattle.cose_gate_records.specs.Views.{said};
 
-    ghost State = { Said };
+    ghost State = { LineLog };
 
     ghost state = { λ l. record {
       name = l.buffer.ghost_name;

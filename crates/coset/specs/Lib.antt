@@ -7,7 +7,7 @@ pub use Rattle.coset_base.specs.ValueView
 pub use Rattle.coset_base.specs.Builders
 pub use Rattle.coset_base.specs.declared.header_builder.HeaderBuilder
 pub use Rattle.coset_base.specs.declared.signature_builder.CoseSignatureBuilder
-pub use Rattle.coset_base.specs.Alone
+pub use Rattle.coset_base.specs.Unsent
 pub use Rattle.coset_base.specs.Contexts
 pub use Rattle.coset_base.specs.Covered
 pub use Rattle.coset_base.specs.Fields

@@ -10,7 +10,7 @@ pub use Rattle.ciborium_value.specs.Canonical
 pub use Rattle.ciborium_value.specs.Encoding
 pub use Rattle.ciborium_value.specs.Tree
 pub use Rattle.ciborium_value.specs.View as ValueView
-pub use Rattle.coset_headers.specs.Alone
+pub use Rattle.coset_headers.specs.Unsent
 pub use Rattle.coset_headers.specs.Fields
 pub use Rattle.coset_headers.specs.Headers
 pub use Rattle.coset_headers.specs.Short

@@ -1,4 +1,4 @@
-pub mod Alone
+pub mod Unsent
 pub mod AsWritten
 pub mod Copies
 pub mod Entries

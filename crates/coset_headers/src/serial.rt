@@ -5,7 +5,7 @@ ghost use Rattle.ciborium_value.specs.Tree as spec;
 ghost use Rattle.ciborium_value.specs.View.{view};
 ghost use Rattle.coset_labels.specs.Faults.{OrMemory, CantWrite};
 ghost use Rattle.coset_labels.specs.Limits.{nesting, layers, nesting_of, layers_of};
-ghost use Rattle.coset_headers.specs.Alone.{HasUnsent, unsent_tree, is_unset};
+ghost use Rattle.coset_headers.specs.Unsent.{HasUnsent, unsent_tree, is_unset};
 ghost use Rattle.coset_headers.specs.Fields.{HeaderFields, ProtectedFields, SignatureFields};
 ghost use Rattle.coset_headers.specs.Fields.{protected, signature, no_header};
 ghost use Rattle.coset_headers.specs.Headers.{HasHeader, HasProtected, HasSignature};

@@ -1,4 +1,4 @@
-use Rattle.cose_gate_command.proofs.SaidLines.{adds_both, adds_flushed}
+use Rattle.cose_gate_command.proofs.RunLines.{adds_both, adds_flushed}
 use Rattle.cose_gate_command.proofs.key_file.say_not_begun.Goals as goal
 
 pub returns : goal.returns

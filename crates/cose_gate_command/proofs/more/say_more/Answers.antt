@@ -1,5 +1,5 @@
 use Rattle.std.proofs.Common.{true}
-use Rattle.cose_gate_command.proofs.SaidLines.{adds_both, adds_flushed, adds_nothing}
+use Rattle.cose_gate_command.proofs.RunLines.{adds_both, adds_flushed, adds_nothing}
 use Rattle.cose_gate_command.proofs.more.say_more.Goals as goal
 
 pub returns-in_default : goal.returns-in_default

@@ -1,5 +1,5 @@
 use Rattle.std.proofs.Common.{true}
-use Rattle.cose_gate_command.proofs.SaidLines.{adds_line, adds_nothing}
+use Rattle.cose_gate_command.proofs.RunLines.{adds_line, adds_nothing}
 use Rattle.cose_gate_command.proofs.more.write_more.Goals as goal
 
 pub returns-then-is_empty-2 : goal.returns-then-is_empty-2

@@ -2,8 +2,8 @@ use Rattle.std.proofs.Common.{refl, rules, ◌≡◌, ◌∷◌, ◌++◌, [], �
 use Rattle.std.specs.Prelude.{option_copied}
 use Rattle.cose_gate_program.specs.Telling.{not_begun}
 use Rattle.cose_gate_program.proofs.Tellings.{began, ran_as}
-use Rattle.cose_gate_command.specs.Said.{SaysSince}
-use Rattle.cose_gate_command.proofs.SaidLines.{said_all, same_writer}
+use Rattle.cose_gate_command.specs.RunLines.{SaysSince}
+use Rattle.cose_gate_command.proofs.RunLines.{said_all, same_writer}
 use Rattle.cose_gate_command.proofs.Ends.{lent_on}
 use Rattle.cose_gate_command.proofs.Reasons.{plain_run}
 use Rattle.cose_gate_command.proofs.verbose.run_asked.Goals as goal

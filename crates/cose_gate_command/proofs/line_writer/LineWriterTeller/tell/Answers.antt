@@ -1,5 +1,5 @@
-use Rattle.cose_gate_command.proofs.SaidLines.{says_line, says_more}
-use Rattle.cose_gate_command.proofs.said.SaidTeller.tell.Goals as goal
+use Rattle.cose_gate_command.proofs.RunLines.{says_line, says_more}
+use Rattle.cose_gate_command.proofs.line_writer.LineWriterTeller.tell.Goals as goal
 
 pub invariant_of-self : goal.invariant_of-self
 invariant_of-self g c =

@@ -1,8 +1,8 @@
 //! The lines of the program, and what is said more.
 ghost use Rattle.std.specs.Prelude.{◌≡◌, ◌++◌, ◌∷◌, []};
 ghost use Rattle.cose_gate_program.specs.Writing.{Wrote};
-ghost use Rattle.cose_gate_command.specs.Said as spec;
-ghost use Rattle.cose_gate_command.specs.Said.{Adds, SaidLines, Spoken, Spoken-prop};
+ghost use Rattle.cose_gate_command.specs.RunLines as spec;
+ghost use Rattle.cose_gate_command.specs.RunLines.{Adds, LineLog, LogsSay, LogsSay-prop};
 
 use crate::explained::Note;
 use crate::more::{Place, flush, say_more};
@@ -32,7 +32,7 @@ pub(crate) struct Manner {
 
 /// The lines of the program, and if it is verbose after each what is said more.
 #[derive(Drop)]
-pub(crate) struct Said<'o, 'n, W: Write> {
+pub(crate) struct LineWriter<'o, 'n, W: Write> {
     out: &'o mut W,
     manner: Manner,
     /// It is lent, since what it holds may be none: else no clause could say what becomes of `out`.
@@ -42,10 +42,10 @@ pub(crate) struct Said<'o, 'n, W: Write> {
     /// What was told, and what the writer was at first. It is in contracts alone.
     told: &'o mut Log<Notice>,
     was: &'o Log<W>,
-    ghost is: { Spoken W.Write manner was.now out.now told.now } by { Prim.hlevel Spoken-prop },
+    ghost is: { LogsSay W.Write manner was.now out.now told.now } by { Prim.hlevel LogsSay-prop },
 }
 
-impl<'o, 'n, W: Write> Said<'o, 'n, W> {
+impl<'o, 'n, W: Write> LineWriter<'o, 'n, W> {
     /// Of this writer, which is the one in the first log; the second is for what is told.
     pub(crate) fn new(
         out: &'o mut W,
@@ -53,7 +53,7 @@ impl<'o, 'n, W: Write> Said<'o, 'n, W> {
         sources: &'o Sources<'n>,
         was: &'o Log<W>,
         told: &'o mut Log<Notice>,
-    ) -> Said<'o, 'n, W>
+    ) -> LineWriter<'o, 'n, W>
         requires { was.now.items ≡ out.old ∷ [] }
         ensures was { result.was.now.items ≡ out.old ∷ [] }
         ensures told { result.told.now.items ≡ [] }
@@ -61,7 +61,7 @@ impl<'o, 'n, W: Write> Said<'o, 'n, W> {
         ensures kept { result.out.ghost_name ≡ out.entry.ghost_name }
     {
         *told = Log::new();
-        Said {
+        LineWriter {
             out,
             manner,
             sources,
@@ -128,8 +128,8 @@ fn explain<W: Write>(
     say_more(notice, place, note, out);
 }
 
-impl<'o, 'n, W: Write> Teller for Said<'o, 'n, W> {
-    ghost State = { SaidLines W };
+impl<'o, 'n, W: Write> Teller for LineWriter<'o, 'n, W> {
+    ghost State = { LineLog W };
 
     ghost state = { λ l. record {
       verbose = l.manner.verbose;

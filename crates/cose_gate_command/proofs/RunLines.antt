@@ -10,9 +10,9 @@ use Rattle.cose_gate_program.specs.Writing.{Wrote, WroteSince}
 use Rattle.cose_gate_program.specs.declared.telling.Notice.{Notice}
 use Rattle.cose_gate_program.proofs.Written.{wrote_then}
 use Rattle.cose_gate_command.specs.KeyFiles.{indented}
-use Rattle.cose_gate_command.specs.Said.{Adds, AreIndented, SaidLines, SaysSince, is_line, shown}
-use Rattle.cose_gate_command.specs.Said.AreIndented.{none, one_more}
-use Rattle.cose_gate_command.specs.Said.Among.{nothing, line, more}
+use Rattle.cose_gate_command.specs.RunLines.{Adds, AreIndented, LineLog, SaysSince, is_line, shown}
+use Rattle.cose_gate_command.specs.RunLines.AreIndented.{none, one_more}
+use Rattle.cose_gate_command.specs.RunLines.Among.{nothing, line, more}
 
 unchanged : (b : Option (List ℕ)) → Appends b b []
 unchanged None = tt
@@ -87,28 +87,28 @@ says_nothing {W} w verbose quiet was now told first empty =
     start true = ∣ ([], nothing, same w now) ∣₁
     start false = same w now
 
-abbrev says : {W : Type 0} → SaidLines W → Notice → SaidLines W
+abbrev says : {W : Type 0} → LineLog W → Notice → LineLog W
 says s notice = record s { told = s.told ++ notice ∷ [] }
 
-said_over : {W : Type 0} (s : SaidLines W) (ns : List Notice) → folded_over says s ns ≡ record s { told = s.told ++ ns }
+said_over : {W : Type 0} (s : LineLog W) (ns : List Notice) → folded_over says s ns ≡ record s { told = s.told ++ ns }
 said_over s [] = ap (λ (z : List Notice). record s { told = z }) (sym (append-nil s.told))
 said_over s (n ∷ ns) = said_over (says s n) ns ∙ ap (λ (z : List Notice). record s { told = z }) (append_assoc s.told (n ∷ []) ns)
 
 -- all that was said on a writer that was `first`
-pub said_all : {W F : Type 0} (w : Writes W F) (s s' : SaidLines W) (ns : List Notice) (first now : W) (verbose quiet : Bool)
+pub said_all : {W F : Type 0} (w : Writes W F) (s s' : LineLog W) (ns : List Notice) (first now : W) (verbose quiet : Bool)
     → s' ≡ folded_over says s ns → s.was ≡ first ∷ [] → s.told ≡ [] → s.verbose ≡ verbose → s.quiet ≡ quiet
     → SaysSince w s'.verbose s'.quiet s'.was now s'.told → SaysSince w verbose quiet (first ∷ []) now ns
 said_all {W} w s s' ns first now verbose quiet e begun empty loud still is =
     let end : s' ≡ record s { told = s.told ++ ns } = e ∙ said_over s ns in
-    let v : s'.verbose ≡ verbose = ap (λ (z : SaidLines W). z.verbose) end ∙ loud in
-    let q : s'.quiet ≡ quiet = ap (λ (z : SaidLines W). z.quiet) end ∙ still in
-    let b : s'.was ≡ first ∷ [] = ap (λ (z : SaidLines W). z.was) end ∙ begun in
-    let t : s'.told ≡ ns = ap (λ (z : SaidLines W). z.told) end ∙ ap (λ (z : List Notice). z ++ ns) empty in
+    let v : s'.verbose ≡ verbose = ap (λ (z : LineLog W). z.verbose) end ∙ loud in
+    let q : s'.quiet ≡ quiet = ap (λ (z : LineLog W). z.quiet) end ∙ still in
+    let b : s'.was ≡ first ∷ [] = ap (λ (z : LineLog W). z.was) end ∙ begun in
+    let t : s'.told ≡ ns = ap (λ (z : LineLog W). z.told) end ∙ ap (λ (z : List Notice). z ++ ns) empty in
     subst (λ (z : Bool). SaysSince w z quiet (first ∷ []) now ns) v
     (subst (λ (z : Bool). SaysSince w s'.verbose z (first ∷ []) now ns) q
     (subst (λ (z : List W). SaysSince w s'.verbose s'.quiet z now ns) b
     (subst (λ (z : List Notice). SaysSince w s'.verbose s'.quiet s'.was now z) t is)))
 
 -- they are on the same writer
-pub same_writer : {W : Type 0} (s s' : SaidLines W) (ns : List Notice) → s' ≡ folded_over says s ns → s'.name ≡ s.name
-same_writer s s' ns e = ap (λ (z : SaidLines _). z.name) (e ∙ said_over s ns)
+pub same_writer : {W : Type 0} (s s' : LineLog W) (ns : List Notice) → s' ≡ folded_over says s ns → s'.name ≡ s.name
+same_writer s s' ns e = ap (λ (z : LineLog _). z.name) (e ∙ said_over s ns)

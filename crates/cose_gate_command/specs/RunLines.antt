@@ -10,7 +10,7 @@ use Rattle.cose_gate_program.specs.Writing.{Wrote, WroteSince, WroteSince-prop}
 use Rattle.cose_gate_program.specs.declared.telling.Notice.{Notice}
 use Rattle.cose_gate_program.specs.declared.telling.Notice.TheVariants as notice
 use Rattle.cose_gate_command.specs.KeyFiles.{indented, reason_line}
-use Rattle.cose_gate_command.specs.declared.said.Manner.{Manner}
+use Rattle.cose_gate_command.specs.declared.line_writer.Manner.{Manner}
 
 abbrev pub has_passed : Verdict → Bool
 has_passed Passed = true
@@ -74,13 +74,13 @@ SaysSince-prop w false quiet was now told =
     WroteSince-prop w was now (flat_map (shown quiet) told)
 
 -- the same of two logs
-abbrev pub Spoken : {W F : Type 0} → Writes W F → Manner → Log W → W → Log Notice → Type 0
-Spoken w manner was now told =
+abbrev pub LogsSay : {W F : Type 0} → Writes W F → Manner → Log W → W → Log Notice → Type 0
+LogsSay w manner was now told =
     SaysSince w manner.verbose manner.quiet was.items now told.items
 
-pub Spoken-prop : {W F : Type 0} (w : Writes W F) (manner : Manner) (was : Log W) (now : W)
-    (told : Log Notice) → IsProp (Spoken w manner was now told)
-Spoken-prop w manner was now told =
+pub LogsSay-prop : {W F : Type 0} (w : Writes W F) (manner : Manner) (was : Log W) (now : W)
+    (told : Log Notice) → IsProp (LogsSay w manner was now told)
+LogsSay-prop w manner was now told =
     SaysSince-prop w manner.verbose manner.quiet was.items now told.items
 
 -- the same of all that a run says, with the line on KEYS if it isn't verbose
@@ -93,7 +93,7 @@ Says w false quiet fault keys old new told =
 
 -- lines on a writer that is lent: how they are said, what the writer was at first, and what was
 -- told since
-pub record SaidLines (W : Type 0) : Type 0 where
+pub record LineLog (W : Type 0) : Type 0 where
   pub verbose : Bool
   pub quiet : Bool
   pub name : ℕ
