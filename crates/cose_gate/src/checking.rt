@@ -126,9 +126,9 @@ pub struct Streamed<E> {
 /// message is checked to its end.
 ///
 /// # Errors
-/// Those of `stream_check`. Nothing is written then, or a beginning of the payload: bytes that follow
-/// the title in its place, from the first one on, and no more than it states. After them the message
-/// may be cut or damaged.
+/// Those of `stream_check`. Nothing is written then, or a beginning of the payload: bytes that
+/// follow the title in its place, from the first one on, and no more than it states. After them the
+/// message may be cut or damaged.
 pub fn stream_check_into<R: Read, J: Judge, W: Write>(
     alloc: Global,
     limits: Limits,
