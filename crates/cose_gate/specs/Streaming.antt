@@ -169,9 +169,9 @@ pub record BeginsPayload (limits : Bounds) (b text : List ℕ) : Type 0 where
   pub follows : opening.behind ≡ text ++ rest
   pub fits : length text ≤ size
 
--- what a writer got of the payload of a message that was to come: nothing, and it is as it was; or a
--- text that the payload begins with, if the bytes are known, up to its end or to one failure of the
--- writer
+-- what a writer got of the payload of a message that was to come: nothing, and it is as it was; or
+-- a text that the payload begins with, if the bytes are known, up to its end or to one failure of
+-- the writer
 pub data CopiedPart {W F : Type 0} (limits : Bounds) (w : Writes W F) (old new : W)
     (left : Option (List ℕ)) : Type 0 where
   nothing_copied : new ≡ old → CopiedPart limits w old new left

@@ -90,9 +90,9 @@ IsRefused allows aad left why =
     IfKnown left (λ b. (w : Why) × IsWhy why w × Unstreamed (length b) b w)
 
 -- how the check ends by this judge and external data: the whole input is such a message, the answer
--- is yes, and its payload was written; or what is said of the input is true, and nothing was written
--- but a beginning of the payload. If the output failed, the last call may have been a flush, which
--- changes nothing that was written.
+-- is yes, and its payload was written; or what is said of the input is true, and nothing was
+-- written but a beginning of the payload. If the output failed, the last call may have been a
+-- flush, which changes nothing that was written.
 abbrev pub Ended : {W F : Type 0} → (Question → Bool) → List ℕ → Option (List ℕ) → Writing W F → W → W → Result (Unit {0}) StreamStop → Type 0
 Ended allows aad left w out out' (Ok u) =
     (payload front : List ℕ) × IsAnswered allows aad true payload front

@@ -20,4 +20,5 @@ parts_view p = parts_in p.protected p.unprotected p.content
 
 -- the array of the parts' values and of one more
 abbrev pub four_of : PartValues → Value → Tree
-four_of p last = array (trees (view p.protected ∷ view p.unprotected ∷ view p.content ∷ view last ∷ []))
+four_of p last =
+    array (trees (view p.protected ∷ view p.unprotected ∷ view p.content ∷ view last ∷ []))
