@@ -205,6 +205,7 @@ END
   fi
   if command -v systemd-analyze > /dev/null; then
     echo '0|||mkdir $T/units && cp service/* $T/units && sed -i "s#/usr/bin/#$T/bin/#" $T/units/* && ! systemd-analyze verify $T/units/* 2>&1 | grep cose-gate'
+    echo '0|||systemd-analyze security --offline=true --threshold=5 service/cose-gate@.service > /dev/null'
   else
     echo 'after-ci.sh: no systemd-analyze, so examples/service is left out' >&2
   fi
