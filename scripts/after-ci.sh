@@ -175,6 +175,8 @@ rows() {
 4|/dev/null|cose-show: the folder DIR can't be made|cose-show --cut 1 one.cbor mixed.cbor
 4|/dev/null|cose-show: a file in DIR can't be made or written|trap '' XFSZ; ulimit -f 1; cose-show --cut 100000 $T/full $T/many
 1|||COSE_GATE=$T/bin/cose-gate COSE_SHOW=$T/bin/cose-show ./many.sh -x -s 100 -c keys.cbor 01 mixed.cbor $T/joined $T/said
+# a non-blocking input, which has failed once the program would wait
+4|one.cbor|stopped: decode: Io|mkfifo $T/open && exec 5<> $T/open && cat one.cbor >&5 && python3 -c 'import fcntl, os, sys; fcntl.fcntl(0, fcntl.F_SETFL, os.O_NONBLOCK); os.execvp(sys.argv[1], sys.argv[1:])' cose-gate keys.cbor 01 <&5
 # without the kit: a line; and no program is taken that isn't noted as built of the sources as they are; modes that the umask doesn't change
 0|||for it in 'gate keys.cbor' ask 'pass one.cbor' sift show; do PATH=$bare $T/copy/cose-$it; echo $?; done 2>&1 < one.cbor | cmp - <(printf "cose-%s: rt isn't in PATH: it comes with Rattle's kit, KIT/bin\n70\n" gate ask pass sift show)
 0|||for it in gate verify; do PATH=$bare bash $T/copy/scripts/try.sh cose-$it keys.cbor; echo $?; done 2>&1 < one.cbor | cmp - <(printf "cose-%s: rt isn't in PATH: it comes with Rattle's kit, KIT/bin\n70\n" gate verify)
