@@ -30,9 +30,10 @@ crates_in() {
 
 # Finds sources of a crate and of those below it, by what `find` is told after its name.
 sources() {
-  local crate=$1
+  local folders
+  mapfile -t folders < <(crates_in /dev/null "$1" | sed 's|^|crates/|')
   shift
-  cd "$top" && find $(crates_in /dev/null "$crate" | sed 's|^|crates/|') -name out -prune -o -type f \( -name '*.rt' -o -name '*.antt' \) "$@"
+  cd "$top" && find "${folders[@]}" -name out -prune -o -type f \( -name '*.rt' -o -name '*.antt' \) "$@"
 }
 
 # The sum of these, and of which libraries each crate names.
