@@ -228,7 +228,7 @@ go_through() {
   while IFS='|' read -r status output last command; do
     [ -n "$command" ] || continue
     found=0
-    PATH=$T/bin:$PATH timeout 60 bash -o pipefail -c "$command" > "$T/out" 2> "$T/err" < /dev/null || found=$?
+    PATH=$T/bin:$PATH timeout 300 bash -o pipefail -c "$command" > "$T/out" 2> "$T/err" < /dev/null || found=$?
     line=${last:+$(tail -n 1 "$T/err")} last=${last//\$T/$T}
     count=$((count + 1))
     [ "$found" = "$status" ] && [ "$line" = "$last" ] && { [ -z "$output" ] || cmp -s "$T/out" "${output//\$T/$T}"; } && continue
