@@ -87,10 +87,10 @@ def version():
 
 def seconds(text):
     """Seconds since 1970: a number of them, or a time such as 2026-11-27T21:44:19Z."""
-    return calendar.timegm(time.strptime(text, "%Y-%m-%dT%H:%M:%SZ")) if "T" in text else whole(text)
+    return calendar.timegm(time.strptime(text, "%Y-%m-%dT%H:%M:%SZ")) if "T" in text else whole_number(text)
 
 
-def whole(text):
+def whole_number(text):
     """A whole number that CBOR has, so of 64 bits."""
     number = int(text)
     if not -1 << 64 <= number < 1 << 64:

@@ -324,9 +324,10 @@ class Tools(unittest.TestCase):
         good = token(claims(_4=NOW + 60))
         self.refused([("Judged", reason, token(payload)) for reason, payload in (
             ("expired 2023-11-14T22:13:20Z, and it is 2023-11-14T22:13:20Z", claims(_4=NOW)),
-            ("expired", claims(_4=-1)), ("exp isn't a finite time", claims(_4=float("inf"))), ("exp isn't a finite time", claims(_4=float("-inf"))),
-            ("nbf isn't a finite time", claims(_5=float("-inf"))), ("for a receiver, 'you', and none is named", claims(_3="you")),
-            ("for a receiver, None, and none is named", claims(_3=None)), ("for a receiver, \\['a', 'b'\\], and none", claims(_3=["a", "b"])),
+            ("expired", claims(_4=-1)), ("exp isn't a finite time", claims(_4=float("inf"))),
+            ("exp isn't a finite time", claims(_4=float("-inf"))), ("nbf isn't a finite time", claims(_5=float("-inf"))),
+            ("for a receiver, 'you', and none is named", claims(_3="you")), ("for a receiver, None, and none", claims(_3=None)),
+            ("for a receiver, \\['a', 'b'\\], and none", claims(_3=["a", "b"])),
             ("not before", claims(_5=NOW + 1)), ("not before", claims(_5=NOW + 0.5)), ("not before", claims(_5=1 << 63)),
             ("exp isn't a number", claims(_4="2033")), ("exp isn't a number", claims(_4=True)), ("exp isn't a number", claims(_4=None)),
             ("exp isn't a finite time", claims(_4=float("nan"))), ("exp isn't a number", cbor2.dumps({4: cbor2.CBORTag(1, NOW + 60)})),
@@ -367,7 +368,7 @@ class Tools(unittest.TestCase):
             (2, "less than 0", "--keys", self.keys, "--now", "--leeway", "-1"),
             (2, "are for --now", "--keys", self.keys, "--aud", "x"), (2, "are for --now", "--keys", self.keys, "--any-aud"),
             (2, "one of them", "--keys", self.keys, "--now", "--aud", "x", "--any-aud"),
-            (2, "invalid whole value", "--keys", self.keys, "--now", "0", "--leeway", "9" * 400),
+            (2, "invalid whole_number value", "--keys", self.keys, "--now", "0", "--leeway", "9" * 400),
             (2, "invalid seconds value", "--keys", self.keys, "--now", "9" * 5000), (2, "\\x1b[2J", "--keys", self.keys, "\x1b[2J"),
             (3, "deep: JSON of too many levels", "--keys", self.put("deep", b"[" * 100_000)),
             (3, "surrogates", "--keys", self.put("half.json", b'{"kty":"oct","k":"AAAA","kid":"\\ud800"}')),
@@ -396,7 +397,8 @@ class Tools(unittest.TestCase):
 
     def test_one_message(self):
         for status, words, out, data in (
-            (0, "passed 1, refused 0", GOOD, GOOD), (1, "passed 0, refused 1", b"", flipped(GOOD)), (1, "refused: the input is empty", b"", b""),
+            (0, "passed 1, refused 0", GOOD, GOOD), (1, "passed 0, refused 1", b"", flipped(GOOD)),
+            (1, "refused: the input is empty", b"", b""),
             (1, "refused: more than one message", b"", GOOD + GOOD), (1, "refused: more than one message", b"", GOOD * 2000),
             (1, "refused: more than one message", b"", GOOD + GOOD[:9]), (1, "refused: more than one message", b"", GOOD + b"\xff"),
             (4, "stopped: decode: Io(EndOfFile)\n  item 1 at 0: ", b"", GOOD[:-1]), (4, "stopped: decode: ", b"", b"\xff" + GOOD),
@@ -409,7 +411,8 @@ class Tools(unittest.TestCase):
         self.assertEqual(self.verify(large, "--one", status=0)[0], large)
         token = sign1({1: -7}, KID, payload=claims(_4=NOW + 60))
         self.assertEqual(self.verify(b"\xd8\x3d" + token, "--one", "--now", str(NOW), status=0)[0], token)
-        process = subprocess.Popen([VERIFY, "--keys", self.keys, "--one"], stdin=subprocess.PIPE, stdout=subprocess.PIPE, stderr=subprocess.PIPE)
+        process = subprocess.Popen([VERIFY, "--keys", self.keys, "--one"], stdin=subprocess.PIPE, stdout=subprocess.PIPE,
+                                   stderr=subprocess.PIPE)
         os.write(process.stdin.fileno(), GOOD)
         time.sleep(0.5)
         os.write(process.stdin.fileno(), b"\0")    # which ends the run, though there may be more to come
