@@ -464,7 +464,7 @@ class Tools(unittest.TestCase):
         many = self.many_signatures(20_000, 5000)
         done = subprocess.run([*limited, VERIFY, "--keys", self.keys], input=GOOD + many + GOOD, capture_output=True)
         self.assertEqual((done.stdout, done.returncode), (GOOD * 2, 1), done.stderr)
-        done = subprocess.run([*limited, VERIFY, "--keys", self.keys], input=GOOD + b"\x5a\x40\0\0\0" + bytes(1 << 30), capture_output=True)
+        done = subprocess.run([*limited, VERIFY, "--keys", self.keys], input=GOOD + h("5a10000000") + bytes(200 << 20), capture_output=True)
         self.assertEqual((done.stdout, done.returncode), (GOOD, 4), done.stderr)
         self.assertRegex(done.stderr, b"\nstopped: memory\n$")
 
