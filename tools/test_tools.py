@@ -458,7 +458,7 @@ class Tools(unittest.TestCase):
         self.assertLess(peak, 150)
 
     def test_limited_memory(self):
-        limited = ["bash", "-c", 'ulimit -v 400000; exec "$@"', "bash"]
+        limited = ["bash", "-c", 'ulimit -v 250000; exec "$@"', "bash"]
         if subprocess.run([*limited, "cose-gate", "--version"], capture_output=True).returncode:
             self.skipTest("these programs don't run under a limit")
         many = self.many_signatures(20_000, 5000)
