@@ -152,7 +152,7 @@ rows() {
 0||sifted 1, dropped 0|{ printf '\132\0\17\377\373'; head -c 1048571 /dev/zero; } | cose-sift > $T/sifted && [ $(wc -c < $T/sifted) = 1048576 ]
 1|/dev/null|sifted 0, dropped 1|{ printf '\132\0\17\377\374'; head -c 1048572 /dev/zero; } | cose-sift
 0|one.cbor|sifted 1, dropped 0|cose-sift --max 4294967296 < one.cbor
-# its lines: where, and why; what it has before it waits; an output that fails while it would wait
+# its lines: the place, and why; what it has before it waits; an output that fails while it would wait
 0|||[ "$(printf '\1\360' | cose-sift 2>&1 > /dev/null | head -n 1)" = "item at 1: left out: it can't be read" ]
 0|||[ "$({ printf '\1'; cat one.cbor; } | cose-sift --max 47 2>&1 > /dev/null | head -n 1)" = 'item at 1: left out: longer than --max' ]
 0|one.cbor||set +o pipefail; { cat one.cbor; head -c 20 one.cbor; sleep 2; } | cose-sift | timeout 1 head -c 48
