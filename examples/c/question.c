@@ -30,7 +30,7 @@ static uint32_t write_record(bytes image, const uint8_t *question, cose_gate_str
   fwrite(question, 1, answer.head, stdout);
   fwrite(image.at + answer.payload, 1, answer.payload_length, stdout);
   fwrite(question + answer.head, 1, answer.question_length - answer.head, stdout);
-  return fflush(stdout) == 0 ? answer.status : COSE_GATE_STOPPED;
+  return fflush(stdout) == 0 && !ferror(stdout) ? answer.status : COSE_GATE_STOPPED;
 }
 
 int main(int count, char **words) {
