@@ -11,7 +11,7 @@ const LINE: usize = 256;
 
 /// Why the judge said no to the question at hand, and what is said before that.
 #[derive(Drop)]
-pub(crate) struct Note {
+pub struct Note {
     /// The reason; empty if none is known.
     pub(crate) reason: String,
     /// Whether the question is about one signature of several.
@@ -23,7 +23,7 @@ pub(crate) struct Note {
 
 impl Note {
     /// Of no question yet. It has memory for a line, if it is asked for.
-    pub(crate) fn new(alloc: Global, is_asked: bool) -> Note {
+    pub fn new(alloc: Global, is_asked: bool) -> Note {
         let mut line = String::new(alloc);
         if is_asked {
             let _ = line.reserve(LINE);
@@ -39,7 +39,7 @@ impl Note {
 /// Why the judge by HMAC with these keys says no to the question at hand. If out of memory, no
 /// reason is known.
 #[derive(Drop)]
-pub(crate) struct Reasons<'a> {
+pub struct Reasons<'a> {
     book: Option<KeyBook<'a>>,
     aad_len: usize,
     /// The tag under the key of the message, of what was fed; none if the reason is known already.
@@ -50,20 +50,21 @@ pub(crate) struct Reasons<'a> {
 }
 
 impl<'a> Reasons<'a> {
-    /// The reasons of a judge by these keys, with so many bytes of external data, into this note.
-    pub(crate) fn new(
+    /// The reasons of a judge by these keys, with so many bytes of external data, into this note;
+    /// none without a note.
+    pub fn noted(
         alloc: Global,
         keys: &'a CoseKeySet,
         aad_len: usize,
-        note: &'a RefCell<Note>,
-    ) -> Reasons<'a> {
-        Reasons {
+        note: Option<&'a RefCell<Note>>,
+    ) -> Option<Reasons<'a>> {
+        Some(Reasons {
             book: KeyBook::new(alloc, keys).ok(),
             aad_len,
             mac: None,
             is_shared: false,
-            note,
-        }
+            note: note?,
+        })
     }
 
     /// Begins a question, and notes the reason that it gives before its tag is known.
@@ -126,9 +127,11 @@ fn begun<'b>(
 
 /// A judge, and if they are asked for the reasons of one that gives the same answers.
 #[derive(Drop)]
-pub(crate) struct Explained<'a, J> {
-    pub(crate) judge: J,
-    pub(crate) reasons: Option<Reasons<'a>>,
+pub struct Explained<'a, J> {
+    /// The judge.
+    pub judge: J,
+    /// The reasons, if they are asked for.
+    pub reasons: Option<Reasons<'a>>,
 }
 
 impl<'a, J: Judge> Judge for Explained<'a, J> {

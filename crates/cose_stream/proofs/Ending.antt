@@ -101,6 +101,7 @@ module _ {W F : Type 0} (allows : Question → Bool) (aad : List ℕ) (w : Writi
   reads_no_more l at (stop.Stopped gating.Write) k c none = absurd none
   reads_no_more l at (stop.Stopped gating.Memory) k c none = absurd none
   reads_no_more l at (stop.NotBegun why) k c none = absurd none
+  reads_no_more l at (stop.NoFile why) k c none = absurd none
   reads_no_more l at (stop.Refused why) k c none = absurd none
 
 -- a text that was written, and handed on

@@ -9,11 +9,24 @@ ghost use Rattle.cose_stream.specs.Streams.{Ended, IsEnd, IsNoEnd, Streams, fail
 use crate::stop::{StreamRefusal, StreamStop, stopped_by};
 use ciborium_ll::{Decoder, Error, Read, Write};
 use cose_gate::{GateFault, HmacJudge, InputFault, Limits, de, stream_check_into};
+use cose_gate_command::{Explained, Note, Reasons};
 use cose_gate_program::{Beginning, begin};
 use std::alloc::Global;
+use std::cell::RefCell;
 
 /// The payload is read so many bytes at a time.
 const PIECE: usize = 4096;
+
+/// By what a message is checked.
+#[derive(Clone, Copy)]
+pub struct StreamTerms<'a> {
+    /// What KEYS holds, if it can be read.
+    pub keys: Option<&'a [u8]>,
+    /// The external data in hex.
+    pub aad: Option<&'a str>,
+    /// Where the reason of a no is noted, if it is asked for.
+    pub note: Option<&'a RefCell<Note>>,
+}
 
 /// Checks with the keys that KEYS holds and AADHEX as external data that the input is one COSE_Mac0
 /// that states its payload's length, whose MAC is good, as `HmacJudge` says, and writes its payload
@@ -25,24 +38,25 @@ const PIECE: usize = 4096;
 /// the input goes on.
 pub fn stream<R: Read, W: Write>(
     alloc: Global,
-    keys: Option<&[u8]>,
-    aad: Option<&str>,
+    terms: StreamTerms<'_>,
     input: &mut R,
     out: &mut W,
 ) -> Result<(), StreamStop>
-    ensures ran { Streams R.Read W.Write (option_copied keys.entry) (option_copied aad.entry)
-        input.old input.new out.old out.new result }
+    ensures ran { Streams R.Read W.Write (option_copied terms.entry.keys)
+        (option_copied terms.entry.aad) input.old input.new out.old out.new result }
     ensures kept { R.handle input.new ≡ R.handle input.old }
     ensures lent { W.handle out.new ≡ W.handle out.old }
 {
-    let beginning = begin(alloc, keys, aad)?;
-    check(alloc, &beginning, input, out)
+    let beginning = begin(alloc, terms.keys, terms.aad)?;
+    let reasons = Reasons::noted(alloc, &beginning.keys, beginning.aad.len(), terms.note);
+    check(alloc, &beginning, reasons, input, out)
 }
 
 /// Checks the message with these keys.
 fn check<R: Read, W: Write>(
     alloc: Global,
     beginning: &Beginning,
+    reasons: Option<Reasons<'_>>,
     input: &mut R,
     out: &mut W,
 ) -> Result<(), StreamStop>
@@ -52,7 +66,8 @@ fn check<R: Read, W: Write>(
     ensures kept { R.handle input.new ≡ R.handle input.old }
     ensures lent { W.handle out.new ≡ W.handle out.old }
 {
-    let mut judge = HmacJudge::new(&beginning.keys);
+    let judge = HmacJudge::new(&beginning.keys);
+    let mut judge = Explained { judge, reasons };
     let mut decoder = Decoder::from(input);
     let mut buffer = [0; PIECE];
     let aad = beginning.aad.as_slice();
