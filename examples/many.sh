@@ -58,6 +58,7 @@ fi
 keys=$1 aad=$2 input=$3 passed=$4 lines=$5
 
 # The programs are proved and built once, before several of them start.
+export CALLED=many
 if [ -z "${COSE_GATE-}" ]; then
   bash "$top/scripts/proved.sh" cose-gate cose_gate_cli || exit
   COSE_GATE=$top/crates/cose_gate_cli/out/cose_gate_cli

@@ -18,11 +18,13 @@ top=$(cd "$(dirname "$(readlink -f "${BASH_SOURCE[0]}")")/.." && pwd)
 export CRATES=${CRATES:-$top/crates}
 folder=$(mktemp -d) && trap 'rm -rf "$folder"' EXIT || exit 2
 chmod 711 "$folder"
-export T=$folder/users nobody=
+export T=$folder/users nobody= bare
+bare=$(for it in ${PATH//:/ }; do [ -x "$it/rt" ] || printf '%s:' "$it"; done) bare=${bare%:}
 [ "$(id -u)" != 0 ] || nobody="setpriv --reuid=65534 --regid=65534 --clear-groups"
 
 # The rows: the exit status, the file that the output equals, the last line of standard error, and a command, which runs in examples/. An empty
-# field isn't compared. $T is a folder of its own, and what is written to 4 goes into a pipe that nobody reads.
+# field isn't compared. $T is a folder of its own, with a copy of the repository that has no out/, and what is written to 4 goes into a pipe that
+# nobody reads. $bare is PATH without the folders that have rt.
 rows() {
   cat <<'END'
 # help, arguments, files
@@ -195,6 +197,16 @@ rows() {
 4|/dev/null|cose-show: the folder DIR can't be made|cose-show --cut 1 one.cbor mixed.cbor
 4|/dev/null|cose-show: a file in DIR can't be made or written|trap '' XFSZ; ulimit -f 1; cose-show --cut 100000 $T/full $T/many
 1|||COSE_GATE=$T/bin/cose-gate COSE_SHOW=$T/bin/cose-show ./many.sh -x -s 100 -c keys.cbor 01 mixed.cbor $T/joined $T/said
+# a non-blocking input, which has failed once the program would wait
+4|one.cbor|stopped: decode: Io|mkfifo $T/open && exec 5<> $T/open && cat one.cbor >&5 && python3 -c 'import fcntl, os, sys; fcntl.fcntl(0, fcntl.F_SETFL, os.O_NONBLOCK); os.execvp(sys.argv[1], sys.argv[1:])' cose-gate keys.cbor 01 <&5
+# without the kit: a line; and no program is taken that isn't noted as built of the sources as they are; modes that the umask doesn't change
+0|||for it in 'gate keys.cbor' ask 'pass one.cbor' sift show; do PATH=$bare $T/copy/cose-$it; echo $?; done 2>&1 < one.cbor | cmp - <(printf "cose-%s: rt isn't in PATH: it comes with Rattle's kit, KIT/bin\n70\n" gate ask pass sift show)
+0|||for it in gate verify; do PATH=$bare bash $T/copy/scripts/try.sh cose-$it keys.cbor; echo $?; done 2>&1 < one.cbor | cmp - <(printf "cose-%s: rt isn't in PATH: it comes with Rattle's kit, KIT/bin\n70\n" gate verify)
+0|||for it in install package; do PATH=$bare bash $T/copy/scripts/$it.sh $T/made; echo $?; done 2>&1 | cmp - <(printf "%s.sh: rt isn't in PATH: it comes with Rattle's kit, KIT/bin\n70\n" install package)
+70|/dev/null|install.sh: rt isn't in PATH: it comes with Rattle's kit, KIT/bin|cp -r $T/built/. $T/copy/crates && PATH=$bare bash $T/copy/scripts/install.sh $T/made
+0|||bash $T/copy/scripts/proved.sh --left && umask 077 && PATH=$bare bash $T/copy/scripts/install.sh $T/made && $T/made/bin/cose-gate -h | cmp - <(cose-gate -h) && ! find $T/made ! -perm -o=r | grep .
+0|||export GIT_DIR=$(git rev-parse --absolute-git-dir); umask 077; PATH=$bare bash $T/copy/scripts/package.sh $T/made && ! tar -tvf $T/made/*.gz | grep -v '^.r.xr.xr.x\|^-rw-r--r--' && [ -e $T/made/*.deb -o ! -x /usr/bin/dpkg-deb ]
+70|/dev/null|package.sh: rt isn't in PATH: it comes with Rattle's kit, KIT/bin|sed -i 's/usize/u64/' $T/copy/crates/ciborium_ll/src/dec.rt && touch -d 2000-01-01 $T/copy/crates/ciborium_ll/src/dec.rt && PATH=$bare bash $T/copy/scripts/package.sh $T/made
 # a live pipe: what passed and its line are out before more is waited for, though half of the next item is there; a signal loses neither
 124|one.cbor|item 1 at 0: passed|{ cat one.cbor; sleep 3; } | timeout 2 cose-gate keys.cbor 01
 124|one.cbor|item 1 at 0: passed|{ cat one.cbor; head -c 20 one.cbor; sleep 3; } | timeout 2 cose-gate keys.cbor 01
@@ -217,6 +229,7 @@ END
   fi
   if command -v systemd-analyze > /dev/null; then
     echo '0|||mkdir $T/units && cp service/* $T/units && sed -i "s#/usr/bin/#$T/bin/#" $T/units/* && ! systemd-analyze verify $T/units/* 2>&1 | grep cose-gate'
+    echo '0|||systemd-analyze security --offline=true --threshold=5 service/cose-gate@.service > /dev/null'
   else
     echo 'after-ci.sh: no systemd-analyze, so examples/service is left out' >&2
   fi
@@ -228,14 +241,16 @@ go_through() {
   rm -rf "$T" && mkdir -p "$T/bin" && mkfifo "$T/pipe" && exec 3<> "$T/pipe" 4> "$T/pipe" 3>&- || return
   for it in gate:cose_gate_cli ask:cose_ask_cli pass:cose_pass_cli sift:cose_sift show:cose_show; do
     install "$CRATES/${it#*:}/out/${it#*:}$1" "$T/bin/cose-${it%%:*}" || return
+    install -D "$T/bin/cose-${it%%:*}" "$T/built/${it#*:}/out/${it#*:}" || return
   done
+  mkdir "$T/copy" && tar -C "$top" --exclude=out --exclude=.git -c . | tar -C "$T/copy" -x || return
   touch "$T/unreadable" && chmod 0 "$T/unreadable"
   { head -c 48 mixed.cbor && tail -c 44 mixed.cbor; } > "$T/strict"
   for _ in {1..2000}; do cat one.cbor; done > "$T/many"
   while IFS='|' read -r status output last command; do
     [ -n "$command" ] || continue
     found=0
-    PATH=$T/bin:$PATH timeout 60 bash -o pipefail -c "$command" > "$T/out" 2> "$T/err" < /dev/null || found=$?
+    PATH=$T/bin:$PATH timeout 300 bash -o pipefail -c "$command" > "$T/out" 2> "$T/err" < /dev/null || found=$?
     line=${last:+$(tail -n 1 "$T/err")} last=${last//\$T/$T}
     count=$((count + 1))
     [ "$found" = "$status" ] && [ "$line" = "$last" ] && { [ -z "$output" ] || cmp -s "$T/out" "${output//\$T/$T}"; } && continue

@@ -3,8 +3,10 @@
 # cose-verify, cose-key and cose-make, in Python, into PREFIX/lib/cose-gate, with links in PREFIX/bin; their manual pages into
 # PREFIX/share/man/man1. With --library also the library for C: PREFIX/lib/libcose_gate.a, PREFIX/include/cose_gate.h and
 # PREFIX/lib/pkgconfig/cose_gate.pc, for `cc check.c $(pkg-config --cflags --libs cose_gate)`. Programs and library are proved and built
-# first if a source has changed; if that fails nothing is installed, and the status is 70.
+# first, unless they were built of the sources as they are (scripts/proved.sh, `rt lib`); if that fails nothing is installed, and the status is 70.
+# All can read what is installed, whatever the umask.
 set -u
+umask 022
 top=$(cd "$(dirname "$(readlink -f "${BASH_SOURCE[0]}")")/.." && pwd)
 
 library=
@@ -21,16 +23,18 @@ programs="gate:cose_gate_cli ask:cose_ask_cli pass:cose_pass_cli sift:cose_sift 
 
 for each in $programs; do
   name=cose-${each%%:*}
-  bash "$top/scripts/proved.sh" "$name" "${each#*:}"
+  CALLED=install.sh bash "$top/scripts/proved.sh" "$name" "${each#*:}"
   status=$?
   if [ $status -ne 0 ]; then
-    echo "install.sh: $name is not proved, so nothing is installed" >&2
+    ! command -v rt > /dev/null || echo "install.sh: $name is not proved, so nothing is installed" >&2
     exit $status
   fi
 done
 archive=$top/crates/cose_gate_c/out/libcose_gate_c.a
-# The kit's C code for memory is beside its rt.
-kit=${RT_KIT:-$(dirname "$(dirname "$(readlink -f "$(command -v rt || echo /opt/rattle/bin/rt)")")")}
+if [ -n "$library" ] && ! command -v rt > /dev/null; then
+  echo "install.sh: rt isn't in PATH: it comes with Rattle's kit, KIT/bin" >&2
+  exit 70
+fi
 if [ -n "$library" ] && ! { (cd "$top/crates/cose_gate_c" && rt lib) > /dev/null && [ -f "$archive" ]; }; then
   echo "install.sh: the library is not proved, so nothing is installed" >&2
   exit 70
@@ -65,7 +69,8 @@ for name in cose-verify cose-key cose-make; do
 done
 /usr/bin/python3 -c 'import cryptography' 2> /dev/null || echo "install.sh: cose-verify, cose-key and cose-make need Debian's python3-cryptography"
 if [ -n "$library" ]; then
-  # One archive: the library, and the kit's C code for memory that it is linked with.
+  # One archive: the library, and the kit's C code for memory that it is linked with, which is beside its rt.
+  kit=${RT_KIT:-$(dirname "$(dirname "$(readlink -f "$(command -v rt)")")")}
   made=$(mktemp -d)
   trap 'rm -rf "$made"' EXIT
   printf 'create %s\naddlib %s\naddlib %s\nsave\nend\n' "$made/libcose_gate.a" "$archive" "$kit/c/liblibc_c.a" | ar -M || exit 1

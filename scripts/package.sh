@@ -1,9 +1,10 @@
 #!/usr/bin/env bash
 # scripts/package.sh FOLDER: makes cose-gate_VERSION_amd64.deb and cose-gate_VERSION_amd64.tar.gz in FOLDER: the programs cose-gate, cose-ask,
 # cose-pass, cose-sift and cose-show as they were proved and built, the tools cose-verify, cose-key and cose-make, their manual pages, README, LICENSE
-# and NOTICE. The programs are proved and built first if a source has changed; if that fails nothing is made, and the status is 70. VERSION is
-# the day of the last commit. The same commit gives the same bytes.
+# and NOTICE. The programs are proved and built first, unless they were built of the sources as they are (scripts/proved.sh); if that fails nothing
+# is made, and the status is 70. VERSION is the day of the last commit. The same commit gives the same bytes, whatever the umask.
 set -eu
+umask 022
 top=$(cd "$(dirname "$(readlink -f "${BASH_SOURCE[0]}")")/.." && pwd)
 if [ $# -ne 1 ] || [ -z "$1" ] || [ "${1#-}" != "$1" ]; then
   echo "usage: scripts/package.sh FOLDER" >&2
@@ -14,7 +15,7 @@ folder=$(cd "$1" && pwd)
 
 programs="gate:cose_gate_cli ask:cose_ask_cli pass:cose_pass_cli sift:cose_sift show:cose_show"
 for each in $programs; do
-  bash "$top/scripts/proved.sh" "cose-${each%%:*}" "${each#*:}" || exit
+  CALLED=package.sh bash "$top/scripts/proved.sh" "cose-${each%%:*}" "${each#*:}" || exit
 done
 
 time=$(git -C "$top" log -1 --format=%ct)
@@ -39,7 +40,6 @@ for file in "$top"/tools/cose[-_]*; do
   put "$([ -x "$file" ] && echo 755 || echo 644)" "$file" "usr/lib/cose-gate/${file##*/}"
 done
 git -C "$top" log -1 --format="$version, commit %h" > "$tree/$name/usr/lib/cose-gate/version"
-chmod 644 "$tree/$name/usr/lib/cose-gate/version"
 for it in cose-verify cose-key cose-make; do
   ln -s "../lib/cose-gate/$it" "$tree/$name/usr/bin/$it"
   page $it
@@ -47,8 +47,6 @@ done
 put 644 "$top/LICENSE" usr/share/doc/cose-gate/copyright
 put 644 "$top/NOTICE" usr/share/doc/cose-gate/NOTICE
 put 644 "$top/README.md" usr/share/doc/cose-gate/README.md
-find "$tree/$name" -type d -exec chmod 755 {} +
-find "$tree/$name/usr/share" -type f -exec chmod 644 {} +
 
 tar -C "$tree/$name" --sort=name --mtime="@$time" --owner=0 --group=0 --numeric-owner -cf - usr | gzip -9 -n > "$folder/$name.tar.gz"
 echo "package.sh: wrote $folder/$name.tar.gz"

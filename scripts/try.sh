@@ -2,7 +2,7 @@
 # scripts/try.sh PROGRAM ARGS..: builds cose-gate, cose-ask, cose-pass, cose-sift or cose-show without proving it, in about a minute, and runs it. Standard
 # input and output and the exit status are the program's; a line on standard error says that it is not proved. It is kept in out/unproved, and
 # built again if a source is newer. Of cose-verify the three programs that it runs are built so. scripts/try.sh --path PROGRAM builds it and
-# prints its path. Status 70 if the build fails.
+# prints its path. Status 70 if it can't be built; what is said of a missing kit begins with CALLED, or with PROGRAM.
 # The program is the one that `rt try` runs: not optimized, and it ends at an index out of range, a sum that wraps, or a bad access. It takes
 # some hundred times as long as the proved one, and doesn't run under `ulimit -v`.
 set -u
@@ -27,7 +27,7 @@ esac
 shift
 if [ "$name" = cose-verify ]; then
   for it in gate ask pass; do
-    bash "$0" --path cose-$it > /dev/null || exit
+    CALLED=$name bash "$0" --path cose-$it > /dev/null || exit
   done
   PATH=$top/out/unproved:$PATH exec "$top/tools/cose-verify" "$@"
 fi
@@ -63,6 +63,10 @@ LINKER
 }
 
 if ! [ -x "$program" ] || [ -n "$(find "$top"/crates/*/src "$top/crates.txt" -type f -newer "$program" -print -quit)" ]; then
+  if [ -z "${RT_KIT-}" ] && ! command -v rt > /dev/null; then
+    echo "${CALLED:-$name}: rt isn't in PATH: it comes with Rattle's kit, KIT/bin" >&2
+    exit 70
+  fi
   echo "$name: building it, about a minute" >&2
   (build) || {
     echo "$name: the build failed" >&2

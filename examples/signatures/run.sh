@@ -5,6 +5,7 @@
 set -u
 here=$(cd "$(dirname "$(readlink -f "${BASH_SOURCE[0]}")")" && pwd)
 top=$here/../..
+export CALLED=run.sh
 if [ "${1-}" = --try ]; then
   ASK=$(bash "$top/scripts/try.sh" --path cose-ask) && PASS=$(bash "$top/scripts/try.sh" --path cose-pass) || exit
 fi

@@ -51,7 +51,7 @@ pub fn read_is_written_back()
         → context_tree c ≡ Some t }
 {}
 
-/// Nonces are equal if they say the same.
+/// Nonces are equal exactly if they say the same.
 pub fn nonces_compare(a: &Nonce, b: &Nonce)
     ensures { IsTrue (⟦<Nonce as std::cmp::PartialEq>⟧.eq a.now b.now)
         ↔ (nonce_view a.now ≡ nonce_view b.now) }
@@ -63,13 +63,13 @@ pub fn parties_compare(a: &PartyInfo, b: &PartyInfo)
         ↔ (party_view a.now ≡ party_view b.now) }
 {}
 
-/// Public information is equal if it says the same, received bytes included.
+/// Public information is equal exactly if it says the same, received bytes included.
 pub fn publics_compare(a: &SuppPubInfo, b: &SuppPubInfo)
     ensures { IsTrue (⟦<SuppPubInfo as std::cmp::PartialEq>⟧.eq a.now b.now)
         ↔ (public_view a.now ≡ public_view b.now) }
 {}
 
-/// Contexts are equal if they say the same, received bytes included.
+/// Contexts are equal exactly if they say the same, received bytes included.
 pub fn contexts_compare(a: &CoseKdfContext, b: &CoseKdfContext)
     ensures { IsTrue (⟦<CoseKdfContext as std::cmp::PartialEq>⟧.eq a.now b.now)
         ↔ (context_view a.now ≡ context_view b.now) }
