@@ -2,7 +2,9 @@
 use cose_gate_core::{About, Judge, MessageKind};
 use cose_gate_program::CoseKeySet;
 use cose_hmac::HmacSha256;
-use cose_reasons::{KeyBook, OTHER_KIND, Page, Secret, secret_or_reason, write_wrong_tag};
+use cose_reasons::{
+    KeyBook, OTHER_KIND, Page, Secret, has_short_secret, secret_or_reason, write_wrong_tag,
+};
 use std::alloc::{AllocError, Global};
 use std::cell::RefCell;
 
@@ -19,7 +21,12 @@ pub struct Note {
     /// The front of a line. It has memory from the beginning, so that a run tells that it is out of
     /// memory.
     pub(crate) line: String,
+    /// What is said once of the keys; empty if nothing is.
+    pub(crate) keys: &'static str,
 }
+
+/// Of keys one of which can be guessed.
+const SHORT: &str = "a key of KEYS has a secret of fewer than 16 bytes, which can be guessed";
 
 impl Note {
     /// Of no question yet. It has memory for a line, if it is asked for.
@@ -32,6 +39,7 @@ impl Note {
             reason: String::new(alloc),
             is_of_signer: false,
             line,
+            keys: "",
         }
     }
 }
@@ -58,12 +66,17 @@ impl<'a> Reasons<'a> {
         aad_len: usize,
         note: Option<&'a RefCell<Note>>,
     ) -> Option<Reasons<'a>> {
+        let note = note?;
+        if let Ok(mut guard) = note.try_borrow_mut() {
+            let said = &mut *guard;
+            said.keys = if has_short_secret(keys) { SHORT } else { "" };
+        }
         Some(Reasons {
             book: KeyBook::new(alloc, keys).ok(),
             aad_len,
             mac: None,
             is_shared: false,
-            note: note?,
+            note,
         })
     }
 

@@ -30,7 +30,7 @@ pub use crate::asking::ask;
 pub use crate::command::{USAGE, program};
 pub use crate::explained::{Explained, Note, Reasons};
 pub use crate::key_file::{KeyFile, say_not_begun, write_reason};
-pub use crate::more::{flush, say_fault, say_reason, write_indented, write_more};
+pub use crate::more::{say_fault, say_keys, say_reason, write_indented, write_more};
 pub use crate::not_run::NotRun;
 pub use crate::options::{PassArguments, pass_arguments};
 pub use crate::passing::pass;

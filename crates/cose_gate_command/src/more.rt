@@ -32,6 +32,18 @@ pub(crate) fn say_more<W: Write>(notice: &Notice, place: Place, note: &RefCell<N
     put_more(notice, place, note);
     write_more(note.line.as_str(), note.reason.as_str(), out);
     write_more(remedy(notice), "", out);
+    write_more(note.keys, "", out);
+    note.keys = "";
+    flush(out);
+}
+
+/// Says of the keys what is said once, and flushes the writer.
+pub fn say_keys<W: Write>(note: &RefCell<Note>, out: &mut W)
+    ensures { Adds W.Write true out.old out.new }
+{
+    if let Ok(note) = note.try_borrow() {
+        write_more(note.keys, "", out);
+    }
     flush(out);
 }
 
@@ -210,7 +222,7 @@ pub fn write_indented<W: Write>(first: &str, then: &str, out: &mut W)
 }
 
 /// Hands on what a writer holds back. A fault of it is ignored.
-pub fn flush<W: Write>(out: &mut W)
+pub(crate) fn flush<W: Write>(out: &mut W)
     ensures { Wrote W.Write out.old out.new [] }
 {
     let _ = out.flush();

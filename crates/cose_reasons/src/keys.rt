@@ -1,6 +1,6 @@
 //! The keys of a judge, by their ids.
 use crate::stop::Stop;
-use cose_gate_program::{CoseKeySet, fits};
+use cose_gate_program::{CoseKeySet, fits, secret_of};
 use cose_notation::{Keys, keys_in};
 use coset_keys::CoseKey;
 use coset_labels::{CborSerializable, CoseError};
@@ -72,6 +72,14 @@ fn held_of<'a>(first: Option<Held<'a>>, key: &'a CoseKey) -> Held<'a> {
             is_shared: true,
         },
     }
+}
+
+/// So many bytes can't be guessed.
+const LONG: usize = 16;
+
+/// Whether a key of the set has a secret that can be guessed, as it is of fewer than 16 bytes.
+pub fn has_short_secret(keys: &CoseKeySet) -> bool {
+    keys.0.iter().any(|key| matches!(secret_of(key), Some(secret) if secret.len() < LONG))
 }
 
 /// The key set that the bytes of a file are.

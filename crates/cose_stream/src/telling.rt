@@ -12,7 +12,7 @@ use crate::under::NoFile;
 use ciborium_ll::Write;
 use cose_gate::{GateFault, InputFault, Notice, write_notice};
 use cose_gate_command::{
-    KeyFile, Note, flush, say_fault, say_not_begun, say_reason, write_indented, write_more,
+    KeyFile, Note, say_fault, say_keys, say_not_begun, say_reason, write_indented, write_more,
     write_reason,
 };
 use std::alloc::Global;
@@ -43,6 +43,7 @@ pub fn tell_end<E: Write>(alloc: Global, ended: &StreamEnd, teller: EndTeller<'_
     if teller.verbose {
         say_why(alloc, &ended.end, teller, err);
         say_others(ended.others, err);
+        say_keys(teller.note, err);
     } else {
         write_why(&ended.end, teller.file, err);
         write_others(ended.others, err);
@@ -118,12 +119,11 @@ fn say_why<E: Write>(
     }
 }
 
-/// Says that parts of other runs are there, if they are, and flushes the writer.
+/// Says that parts of other runs are there, if they are.
 fn say_others<E: Write>(others: u8, err: &mut E)
     ensures { Adds E.Write true err.old err.new }
 {
     write_more(if 0 < others { OTHERS } else { "" }, "", err);
-    flush(err);
 }
 
 /// What a refusal means in which the judge has no part.
