@@ -168,6 +168,21 @@ rows() {
 4|one.cbor|stopped: decode: Syntax(50)|{ cat one.cbor; printf '\330\075\377'; } | cose-sift --untag
 4|one.cbor|stopped: decode: Io(EndOfFile)|cose-sift < cut.cbor
 4|one.cbor|stopped: decode: Syntax(48)|{ cat one.cbor; printf '\377'; } | cose-sift
+# open items inside one another, up to many; a large map; an item of the greatest length, and one byte more
+0||sifted 1, dropped 0|printf '\237\237\237\0\377\377\377' | cose-sift | cmp - <(printf '\237\237\237\0\377\377\377')
+1|/dev/null|sifted 0, dropped 1|{ printf '\237%.0s' {1..300}; printf '\377%.0s' {1..300}; } | cose-sift
+4|/dev/null|stopped: decode: Deep|{ printf '\237%.0s' {1..257}; printf '\377%.0s' {1..257}; } | cose-sift --max 0
+0||sifted 1, dropped 0|{ printf '\271\3\350'; head -c 2000 /dev/zero; } | cose-sift | cmp - <(printf '\271\3\350'; head -c 2000 /dev/zero)
+0||sifted 1, dropped 0|{ printf '\132\0\17\377\373'; head -c 1048571 /dev/zero; } | cose-sift > $T/sifted && [ $(wc -c < $T/sifted) = 1048576 ]
+1|/dev/null|sifted 0, dropped 1|{ printf '\132\0\17\377\374'; head -c 1048572 /dev/zero; } | cose-sift
+0|one.cbor|sifted 1, dropped 0|cose-sift --max 4294967296 < one.cbor
+# its lines: the place, and why; what it has before it waits; an output that fails while it would wait
+0|||[ "$(printf '\1\360' | cose-sift 2>&1 > /dev/null | head -n 1)" = "item at 1: left out: it can't be read" ]
+0|||[ "$({ printf '\1'; cat one.cbor; } | cose-sift --max 47 2>&1 > /dev/null | head -n 1)" = 'item at 1: left out: longer than --max' ]
+0|one.cbor||set +o pipefail; { cat one.cbor; head -c 20 one.cbor; sleep 2; } | cose-sift | timeout 1 head -c 48
+0|one.cbor||set +o pipefail; { cat one.cbor; printf '\130'; sleep 2; } | cose-sift | timeout 1 head -c 48
+124|/dev/null|item at 0: left out: it can't be read|{ printf '\360'; sleep 3; } | timeout 2 cose-sift
+4||stopped: write|{ cat one.cbor; sleep 3; } | timeout 2 cose-sift > /dev/full
 # a full disk, and a pipe that nobody reads
 4||stopped: write|cose-gate keys.cbor 01 < one.cbor > /dev/full
 4||stopped: write|cose-gate keys.cbor 01 < $T/many > /dev/full
@@ -268,7 +283,7 @@ users() {
 stack() { bash "$top/scripts/small-stack.sh"; }
 heap() {
   local it programs=()
-  for it in bench cose_gate_cli example_token cose_ask_cli cose_pass_cli cose_show; do programs+=("$CRATES/$it/out/$it"); done
+  for it in bench cose_gate_cli example_token cose_ask_cli cose_pass_cli cose_show cose_sift; do programs+=("$CRATES/$it/out/$it"); done
   sh "$top/scripts/capped.sh" "${programs[@]}"
 }
 time_taken() { python3 "$top/scripts/instructions.py"; }

@@ -3,6 +3,7 @@
 //! large maps.
 
 mod large;
+mod many;
 mod memory;
 mod tokens;
 mod twice;

@@ -1,13 +1,13 @@
-//! An encrypted message opened by a cipher of one's own. `coset` is the one crate that it
+//! An encrypted message opened by a cipher of one's own. `coset_messages` is the one crate that it
 //! names.
 ghost use Rattle.std.specs.Prelude.{◌≡◌, ℕ, List, IfOk, IsSomeAnd};
-ghost use Rattle.coset.specs.EncryptedFields.{Encrypt0Fields};
-ghost use Rattle.coset.specs.EncryptedShapes.{HasEncrypt0};
-ghost use Rattle.coset.specs.EncryptedStructure.{encrypt0_covered};
-ghost use Rattle.coset.specs.LimitsView.{nesting, layers};
-ghost use Rattle.coset.specs.Reading.{HasItem, Tagged};
+ghost use Rattle.coset_messages.specs.EncryptedFields.{Encrypt0Fields};
+ghost use Rattle.coset_messages.specs.EncryptedShapes.{HasEncrypt0};
+ghost use Rattle.coset_messages.specs.EncryptedStructure.{encrypt0_covered};
+ghost use Rattle.coset_messages.specs.LimitsView.{nesting, layers};
+ghost use Rattle.coset_messages.specs.Reading.{HasItem, Tagged};
 
-use coset::{CoseEncrypt0, Fault, TaggedCborSerializable};
+use coset_messages::{CoseEncrypt0, Fault, TaggedCborSerializable};
 use std::alloc::Global;
 
 /// Why a message is not opened.

@@ -138,8 +138,9 @@ fn claims_are_built(rt: HostRuntime) {
     gives(&rt, alloc, claims(&rt, alloc).to_vec(alloc), want);
 }
 
+/// A token is taken, and is refused for each fault.
 #[test]
-fn a_token_is_refused_for_each_fault(rt: HostRuntime) {
+fn cwt(rt: HostRuntime) {
     let alloc = rt.alloc();
     let payload = claims(&rt, alloc).to_vec(alloc).expect(&rt, "bytes");
     let token = sent(&rt, alloc, payload);
@@ -158,8 +159,9 @@ fn a_token_is_refused_for_each_fault(rt: HostRuntime) {
     assert_eq!(rt; faults, want);
 }
 
+/// A signature covers the external data and the received bytes, and no unprotected header.
 #[test]
-fn a_signature_covers_received_bytes_and_no_unprotected_header(rt: HostRuntime) {
+fn signature(rt: HostRuntime) {
     let alloc = rt.alloc();
     let token = sent(&rt, alloc, owned(&rt, alloc, b"This is the content"));
     let mut message = CoseSign1::from_slice(alloc, &token).expect(&rt, "a message");
@@ -167,8 +169,9 @@ fn a_signature_covers_received_bytes_and_no_unprotected_header(rt: HostRuntime) 
     let protected = &mut message.protected;
     protected.header.content_type = Some(ContentType::Text(text(&rt, alloc, "text/plain")));
     assert_eq!(rt; verifies(alloc, &message, AAD), Ok(()));
+    let other = Err(Fault::Caller(Refused::Signature));
+    assert_eq!(rt; verifies(alloc, &message, b"other data"), other);
     // without the received bytes the fields are covered
     message.protected.original_data = None;
-    let other = Err(Fault::Caller(Refused::Signature));
     assert_eq!(rt; verifies(alloc, &message, AAD), other);
 }
