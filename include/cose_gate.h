@@ -3,6 +3,10 @@
  *
  * Buffers: all belong to the caller. A pointer is never NULL, not even with the length 0. `out`, `question`, `questions` and `lines` overlap
  *   nothing else that is passed in the same call; inputs may overlap. No length is above PTRDIFF_MAX. Nothing is kept after a call.
+ * Others: nobody else writes to an input while a call reads it, or to a message as long as what an answer tells of it, as its payload, is
+ *   used. A mapped file is no copy, not even with MAP_PRIVATE: what others write to the file later shows in it, and if they shorten it a
+ *   signal ends the process. So read the file into memory of your own, or into a sealed memfd (examples/c/sealed.h); or have `cose-gate
+ *   --stream --payload FILE` check it, which reads it once.
  * Memory: a call takes memory by malloc, realloc and free, and has given all of it back when it returns. If it runs out of memory, the last
  *   line is `stopped: memory`, in place of the one that the run ended with. A call holds one item, which a sender can make large: an item of
  *   small integers takes 32 times its bytes, one of many small signatures or recipients up to 180 times (docs/TIMES.md, "Memory").
@@ -103,12 +107,12 @@ cose_gate_answer cose_gate_pass(const uint8_t *accepted, size_t accepted_length,
                                 uint8_t *lines, size_t lines_length,
                                 size_t nesting, size_t layers, bool strict);
 
-/* One message that is checked in place: a firmware image in a mapped file, say.
+/* One message that is checked in place: a firmware image in memory that nobody else writes, say ("Others" above).
  *
  * cose_gate_stream_check checks the message at the front of `message`: a COSE_Mac0 with its tag, 17, whose payload is a byte string that states
  * its length in front (RFC 9052, section 6.2). It judges as cose_gate_check does: by HMAC with SHA-256 under the first key of `keys` that fits.
- * The payload is hashed 4 KiB at a time, and never copied as a whole. The message is read to its end before it is judged; what comes after it
- * is not read.
+ * The payload is hashed 4 KiB at a time, and never copied as a whole. The message is read once, to its end, before it is judged. What
+ * comes after it is not read, and its tag doesn't cover that: all of an image is good only if `length` is also `message_length`.
  *
  * COSE_GATE_ALL_PASSED: the tag is good. COSE_GATE_SOME_REFUSED: it isn't, no key fits, or the message is a COSE_Sign1, which is read but has
  * no MAC. With both `length` is how many bytes of `message` the message takes, and the payload is the `payload_length` bytes at
@@ -146,8 +150,8 @@ cose_gate_stream_answer cose_gate_stream_check(const uint8_t *keys, size_t keys_
                                                size_t nesting, size_t layers);
 
 /* cose_gate_stream_ask tells the question about the message at the front of `message`, so that a hash or signature check of the caller's own
- * goes over the payload in place: a COSE_Mac0 as above, or a COSE_Sign1 with its tag, 18 (RFC 9052, section 4.2). It judges nothing; what
- * comes after the message is not read.
+ * goes over the payload in place: a COSE_Mac0 as above, or a COSE_Sign1 with its tag, 18 (RFC 9052, section 4.2). It judges nothing. What
+ * comes after the message is not read, and no signature covers it: look at `length`.
  *
  * `question` takes the record that cose_gate_ask writes for this message, without the payload: the first `head` bytes of `question`, the
  * payload, and the rest of `question` are that record. The lengths in it count the payload. What the signature or MAC covers ends with the

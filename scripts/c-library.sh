@@ -1,17 +1,17 @@
 #!/usr/bin/env bash
-# c-library.sh [left] [c|rust|go|python|image|compare|memory|valgrind..]: proves and builds the static library cose_gate_c if a source of it has
-# changed, and then builds and runs what is asked, or all, with the tools that are there; it says which are not.
+# c-library.sh [left] STEP..: proves and builds the static library cose_gate_c if a source of it has changed, and then builds and runs what
+# each step asks, with the tools that are there; it says which are not. Without a step it says how it is used (status 2).
 #   c, rust, go, python   the example of that language on examples/mixed.cbor: status 1, four messages passed; of Python also es256.py
-#   image                 examples/c/image.c and question.c over good, changed and cut images, one of 64 MiB without a copy
-#   compare               what these examples, or all, give against what the program gives, over examples/*.cbor; the library's shared object
-#                         against the program over the rows `run` of conformance_gate, and over 1,000 mutated sequences
+#   image                 examples/c/image.c, question.c and the streaming calls of cose_gate.py over good, changed and cut images, one of 64 MiB
+#   compare               what the examples in these languages, or all, give against what the program gives, over examples/*.cbor; the library's
+#                         shared object against the program over the rows `run` of conformance_gate, and over 1,000 mutated sequences
 #   memory                the C test under ASan, and with each malloc refused in turn, over the worked examples and 1,000 mutated ones; archive
 #                         and time to link
 #   valgrind              the same under valgrind
 # It is built over the libraries that `rt ci` or `rt check` left in out/, in 40 CPU seconds; if one of them is missing or older than its
 # sources, `rt lib` proves them all. With `left` that fails, and the program is the one that `rt ci` left; CRATES is then another folder of
-# crates with such out/. Status 1 if something differs. What it makes lies in crates/cose_gate_c/out; beside that `go` makes
-# examples/go/lib, `rust` examples/rust/Cargo.lock, and `compare` builds the program in its own out/.
+# crates with such out/. Status 1 if something differs, 70 if the library can't be built. What it makes lies in crates/cose_gate_c/out; beside
+# that `go` makes examples/go/lib, `rust` examples/rust/Cargo.lock, and `compare` builds the program in its own out/.
 set -eu
 export PYTHONDONTWRITEBYTECODE=1
 top=$(cd "$(dirname "$(readlink -f "${BASH_SOURCE[0]}")")/.." && pwd)
@@ -19,9 +19,8 @@ crates=${CRATES:-$top/crates}
 crate=$crates/cose_gate_c
 out=$crate/out
 archive=$out/libcose_gate_c.a
-# The kit's C code for memory is beside its rt.
-kit=${RT_KIT:-$(dirname "$(dirname "$(readlink -f "$(command -v rt)")")")}
-libc=$kit/c/liblibc_c.a
+# The kit's C code for memory, which is kept beside the archive.
+libc=$out/liblibc_c.a
 made=$out/examples
 keys=$top/examples/keys.cbor
 
@@ -35,13 +34,20 @@ for word; do
   case $word in
     left) left=yes ;;
     c | rust | go | python | image | compare | memory | valgrind) what="$what $word " ;;
-    *) fails "no such argument: $word; the head of this script has those that there are" ;;
+    *)
+      what=
+      break
+      ;;
   esac
 done
+if [ -z "$what" ]; then
+  echo "usage: scripts/c-library.sh [left] STEP.., and STEP is c, rust, go, python, image, compare, memory or valgrind" >&2
+  exit 2
+fi
 
 has() { command -v "$1" > /dev/null 2>&1; }
 lacks() { echo "c-library.sh: no $1 here, so $2 is left out"; }
-wants() { [ -z "$what" ] || case $what in *" $1 "*) ;; *) false ;; esac }
+wants() { case $what in *" $1 "*) ;; *) false ;; esac }
 
 # Proves and builds the library over those in out/, by the words that rt gives the compiler. Status 3 if one of them is not of its sources.
 build_over_left() {
@@ -67,17 +73,26 @@ END
 build() {
   local status=0
   build_over_left || status=$?
-  if [ $status = 3 ] && [ -z "$left" ]; then (cd "$crate" && rt lib && [ -f "$archive" ]); else return $status; fi
+  if [ $status = 3 ] && [ -z "$left" ]; then (cd "$crate" && "$kit/bin/rt" lib && [ -f "$archive" ]); else return $status; fi
 }
-mkdir -p "$made"
 is_old() {
   [ ! -f "$archive" ] || [ -n "$(find "$crates"/*/src "$crates"/*/specs "$crates"/*/proofs "$crates/../crates.txt" -newer "$archive" -print -quit)" ]
 }
-if is_old && ! build > "$out/lib.log" 2>&1; then
-  tail -n 20 "$out/lib.log" >&2
-  echo "c-library.sh: the library was not built; the log is $out/lib.log" >&2
-  exit 70
+if [ ! -f "$libc" ] || is_old; then
+  if [ -z "${RT_KIT-}" ] && ! has rt; then
+    echo "c-library.sh: rt isn't in PATH: it comes with Rattle's kit, KIT/bin" >&2
+    exit 70
+  fi
+  kit=${RT_KIT:-$(dirname "$(dirname "$(readlink -f "$(command -v rt)")")")}
+  mkdir -p "$out"
+  if is_old && ! build > "$out/lib.log" 2>&1; then
+    tail -n 20 "$out/lib.log" >&2
+    echo "c-library.sh: the library was not built; the log is $out/lib.log" >&2
+    exit 70
+  fi
+  cp "$kit/c/liblibc_c.a" "$libc"
 fi
+mkdir -p "$made"
 
 build_of() { gcc -std=c11 -O2 -Wall -Wextra -Werror -I "$top/include" "$top/examples/c/$1.c" "$archive" "$libc" -o "$made/$1_c"; }
 build_c() { build_of check; }
@@ -144,7 +159,8 @@ if wants image; then
     build_of image
     build_of question
     build_of check
-    python3 "$top/scripts/c-image.py" "$made/image_c" "$made/question_c" "$made/check_c"
+    build_python
+    python3 "$top/scripts/c-image.py" "$made/image_c" "$made/question_c" "$made/check_c" "$made/libcose_gate.so"
   else
     lacks "gcc or python3" "the check of images"
   fi

@@ -40,7 +40,7 @@ def statuses():
     header = "include/cose_gate.h"
     listed = re.search(r"^/\* The statuses: .*?^enum \{(.*?)^\};", text(header), re.M | re.S)[1]
     same("the statuses are", ["0", "1", "2", "3", "4", "5"], header, re.findall(r"^  COSE_GATE_\w+ = (\d)", listed, re.M))
-    same("the errors have the statuses", ["2", "3", "4", "5"], "examples/python/cose_gate.py",
+    same("the errors have the statuses", ["1", "2", "3", "4", "5"], "examples/python/cose_gate.py",
          found("examples/python/cose_gate.py", r"^    status = (\d)$"))
     same("the statuses are", ["0 | 1", "2", "3", "5", "_"], "examples/rust/src/main.rs",
          re.findall(r"^        (\S.*?) => \w+\(", re.search(r"match answer\.status \{.*?\n    \}", text("examples/rust/src/main.rs"), re.S)[0], re.M))

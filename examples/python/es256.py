@@ -1,17 +1,15 @@
-"""Signatures that the caller checks: COSE_Sign1 with ES256 (RFC 9053, section 2.1), by `ask` and `pass_accepted` of cose_gate.py, and of a
-mapped file, whose payload isn't copied, by `stream_ask`. It makes a key and messages with Debian's python3-cbor2 and python3-cryptography,
-spoils some, and prints what passes: es256.py LIBRARY. Build and run: `bash scripts/c-library.sh python`."""
+"""Signatures that the caller checks: COSE_Sign1 with ES256 (RFC 9053, section 2.1), by `ask` and `pass_accepted` of cose_gate.py, and of an
+image by `stream_ask`. It makes a key and messages with Debian's python3-cbor2 and python3-cryptography, spoils some, and prints what passes:
+es256.py LIBRARY. Build and run: `bash scripts/c-library.sh python`."""
 
-import mmap
 import sys
-import tempfile
 
 import cbor2
 from cryptography.exceptions import InvalidSignature
 from cryptography.hazmat.primitives import hashes
 from cryptography.hazmat.primitives.asymmetric import ec, utils
 
-from cose_gate import Gate
+from cose_gate import Gate, Refused
 
 ALG, CRIT, KID, ES256, SIGN1 = 1, 2, 4, -7, 18
 
@@ -72,16 +70,17 @@ def main(words):
     assert gate.pass_accepted(accepted, aad, renamed).passed == b""
     assert gate.pass_accepted([], aad, input).passed == b""
     print(checked.lines, end="")
-    with tempfile.TemporaryFile() as file:
-        file.write(sign(signer, b"01", aad, bytes(1 << 20)))
-        file.flush()
-        image = mmap.mmap(file.fileno(), 0, access=mmap.ACCESS_COPY)
-    question, front = gate.stream_ask(aad, image)
-    payload = memoryview(image)[front.payload]
-    assert front.length == len(image) and len(payload) == 1 << 20 and len(question.record) < 256
+    image = sign(signer, b"01", aad, bytes(1 << 20))
+    question, payload = gate.stream_ask(aad, image)
+    assert payload == bytes(1 << 20) and len(question.record) < 256
     assert is_good(question, keys, payload)
-    payload[-1] = 1
-    assert not is_good(question, keys, payload)
+    assert not is_good(question, keys, payload[:-1] + b"\1")
+    try:
+        gate.stream_ask(aad, image + b"\xff")
+    except Refused as fault:
+        assert str(fault) == "ExtraneousData"
+    else:
+        raise AssertionError("bytes after the image were taken")
 
 
 if __name__ == "__main__":
