@@ -9,7 +9,14 @@ from dataclasses import dataclass
 LEVELS = 64
 BREAK = object()
 BYTES, TEXT, ARRAY, MAP, TAG, OTHER = 2, 3, 4, 5, 6, 7
-UNDEFINED = object()
+
+
+class Undefined:
+    def __repr__(self):
+        return "undefined"
+
+
+UNDEFINED = Undefined()
 SIMPLE = {20: False, 21: True, 22: None, 23: UNDEFINED}
 FLOATS = {2: ">e", 4: ">f", 8: ">d"}
 
@@ -36,8 +43,8 @@ def decode(data):
 class Reader:
     """Reads items from bytes."""
 
-    def __init__(self, data):
-        self.data, self.at = data, 0
+    def __init__(self, data, at=0):
+        self.data, self.at = data, at
 
     def take(self, length):
         end = self.at + length
@@ -58,6 +65,28 @@ class Reader:
         if argument == 31 and major in (BYTES, TEXT, ARRAY, MAP, OTHER):
             return major, None, 0
         raise Refused("a head that isn't assigned")
+
+    def skip(self):
+        """Goes to the end of an item that is well-formed, however deep it is."""
+        left = [1]      # how many items each open level still has; None: up to a break
+        while left:
+            if left[-1] == 0:
+                left.pop()
+                continue
+            major, argument, _ = self.head()
+            if left[-1] is not None:
+                left[-1] -= 1
+            elif (major, argument) == (OTHER, None):
+                left.pop()
+                continue
+            if major in (BYTES, TEXT) and argument is not None:
+                self.take(argument)
+            elif major in (BYTES, TEXT, ARRAY):
+                left.append(argument)
+            elif major == MAP:
+                left.append(None if argument is None else 2 * argument)
+            elif major == TAG:
+                left.append(1)
 
     def item(self, level, may_break=False):
         if level > LEVELS:
@@ -136,7 +165,7 @@ def encode(value):
     if isinstance(value, bytes):
         return head(BYTES, len(value)) + value
     if isinstance(value, str):
-        return head(TEXT, len(value.encode())) + value.encode()
+        return head(TEXT, len(utf8(value))) + utf8(value)
     if isinstance(value, list):
         return head(ARRAY, len(value)) + b"".join(map(encode, value))
     if isinstance(value, dict):
@@ -144,6 +173,14 @@ def encode(value):
     if isinstance(value, Tag):
         return head(TAG, value.number) + encode(value.value)
     raise Refused(f"no CBOR for {show(value)}")
+
+
+def utf8(text):
+    """The bytes of a text."""
+    try:
+        return text.encode()
+    except UnicodeEncodeError:
+        raise Refused(f"{show(text)} isn't a text in Unicode") from None
 
 
 def head(major, argument):

@@ -288,7 +288,10 @@ def json_of(text):
             names = [name for name, _ in entries]
             raise Refused(f"{next(show(name) for name in names if names.count(name) > 1)} is there twice")
         return value
-    return json.loads(text, object_pairs_hook=made)
+    try:
+        return json.loads(text, object_pairs_hook=made)
+    except RecursionError:
+        raise Refused("JSON of too many levels") from None
 
 
 def unb64(name, text):

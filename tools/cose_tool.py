@@ -1,19 +1,51 @@
-"""What cose-verify, cose-key and cose-make do alike: arguments, lines and output."""
+"""What cose-verify, cose-key and cose-make do alike: arguments, lines, output and how they end."""
 
 import argparse
 import calendar
 import os
 import platform
+import re
 import subprocess
 import sys
 import time
+
+
+def write_all(fd, data):
+    """Writes without a buffer, so that nothing is left to be written at the end."""
+    while data:
+        data = data[os.write(fd, data):]
+
+
+def say(*lines):
+    """Writes lines on standard error; what a terminal would obey is escaped. As of the other programs it doesn't matter if that fails."""
+    try:
+        write_all(2, "".join(CONTROL.sub(escape, line) + "\n" for line in lines).encode("ascii", "backslashreplace"))
+    except OSError:
+        pass
+
+
+CONTROL = re.compile(r"[\0-\x1f\x7f]")
+
+
+def escape(control):
+    return f"\\x{ord(control[0]):02x}"
+
+
+def end(kind, error, _):
+    """Ends after an error that isn't expected. Python's own status, 1, would mean that items were refused."""
+    if kind is not KeyboardInterrupt:
+        say(f"{os.path.basename(sys.argv[0])}: {kind.__name__}: {error}")
+    os._exit(130 if kind is KeyboardInterrupt else 70)
+
+
+sys.excepthook = end
 
 from cose_cbor import Refused
 
 try:
     import cryptography
-except ImportError:     # Python's own status 1 would mean that items were refused
-    print("python3-cryptography isn't there; Debian has it as a package", file=sys.stderr)
+except ImportError:
+    say("python3-cryptography isn't there; Debian has it as a package")
     sys.exit(70)
 
 CLAIMS = {"iss": 1, "sub": 2, "aud": 3, "exp": 4, "nbf": 5, "iat": 6, "cti": 7}     # RFC 8392, section 3.1
@@ -38,6 +70,10 @@ class Parser(argparse.ArgumentParser):
         write_all(1, (text + "\n").encode())
         sys.exit(0)
 
+    def error(self, message):
+        say(f"usage: {self.usage}", f"{self.prog}: error: {message}")
+        sys.exit(2)
+
 
 def version():
     """What scripts/install.sh or scripts/package.sh wrote beside this file; in a checkout the commit, as of cose-gate."""
@@ -51,25 +87,19 @@ def version():
 
 def seconds(text):
     """Seconds since 1970: a number of them, or a time such as 2026-11-27T21:44:19Z."""
-    return calendar.timegm(time.strptime(text, "%Y-%m-%dT%H:%M:%SZ")) if "T" in text else int(text)
+    return calendar.timegm(time.strptime(text, "%Y-%m-%dT%H:%M:%SZ")) if "T" in text else whole_number(text)
 
 
-def write_all(fd, data):
-    """Writes without a buffer, so that nothing is left to be written at the end."""
-    while data:
-        data = data[os.write(fd, data):]
-
-
-def say(*lines):
-    """Writes lines on standard error. As of the other programs it doesn't matter if that fails."""
-    try:
-        write_all(2, "".join(line + "\n" for line in lines).encode("ascii", "backslashreplace"))
-    except OSError:
-        pass
+def whole_number(text):
+    """A whole number that CBOR has, so of 64 bits."""
+    number = int(text)
+    if not -1 << 64 <= number < 1 << 64:
+        raise ValueError("a number of more than 64 bits")
+    return number
 
 
 def run(name, main):
-    """Ends with the status of main: 3 if something is refused, 4 if an input or output fails."""
+    """Ends with the status of main: 3 if something is refused, 4 if an input or output fails, or memory is out."""
     if None in (sys.stdin, sys.stdout, sys.stderr):
         sys.exit(4)     # a file that is opened would be in the place of the closed one
     try:
@@ -77,7 +107,13 @@ def run(name, main):
     except Refused as refused:
         say(f"{name}: {refused}")
         status = 3
+    except RecursionError:
+        say(f"{name}: too many levels")
+        status = 3
+    except MemoryError:
+        say(f"{name}: out of memory")
+        status = 4
     except OSError as error:
-        say(f"{name}: {error.filename + ': ' if error.filename else ''}{error.strerror}")
+        say(f"{name}: {str(error.filename) + ': ' if error.filename else ''}{error.strerror}")
         status = 4
     sys.exit(status)

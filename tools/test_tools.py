@@ -11,6 +11,7 @@ import shutil
 import subprocess
 import sys
 import tempfile
+import time
 import unittest
 
 import cbor2
@@ -29,6 +30,19 @@ def run(tool, *arguments, data=b"", status=None):
     told = done.stderr.decode()
     assert status is None or done.returncode == status, (tool, arguments, done.returncode, told)
     return done.stdout, told, done.returncode
+
+
+PEAK = """import atexit, resource, runpy, sys
+path, sys.path[0], *sys.argv = sys.argv[1:]
+atexit.register(lambda: open(path, "w").write(str(resource.getrusage(resource.RUSAGE_SELF).ru_maxrss)))
+runpy.run_path(sys.argv[0], run_name="__main__")"""
+
+
+def peak_of(*arguments, data):
+    """The memory that cose-verify itself takes at most, in MiB, without the programs that it runs; and what it wrote."""
+    with tempfile.NamedTemporaryFile() as file:
+        done = subprocess.run([sys.executable, "-c", PEAK, file.name, HERE, VERIFY, *arguments], input=data, capture_output=True)
+        return int(file.read()) >> 10, done.stdout, done.stderr.decode(), done.returncode
 
 
 def pem(key):
@@ -181,17 +195,19 @@ class Tools(unittest.TestCase):
         a3 = h("d28443a10126a104524173796d6d65747269634543445341323536" + payload + "58405427c1ff28d23fbad1f29c4c7c6a555e601d6fa29f9179bc3d7438"
                "bacaca5acd08c8d4d4f96131680c429a01f85951ecee743a52b9b63632c57209120e1c9e30")
         a4 = h("d18443a10104a1044c53796d6d6574726963323536" + payload + "48093101ef6d789200")
-        self.passes(a3 + a4, "--now", "1443944944", keys=keys)
+        self.passes(a3 + a4, "--now", "1443944944", "--any-aud", keys=keys)
         self.passes(a3 + a4, "--now", "2015-10-05T17:09:03Z", "--aud", "coap://light.example.com", "--iss", "coap://as.example.com", keys=keys)
-        self.passes(h("d83d") + a3 + h("d9d9f7d83d") + a4 + h("d9d9f7") + a3, "--now", "1443944944", keys=keys, as_bytes=a3 + a4 + a3)
+        tagged = h("d83d") + a3 + h("d9d9f7d83d") + a4 + h("d9d9f7") + a3
+        self.passes(tagged, "--now", "1443944944", "--any-aud", keys=keys, as_bytes=a3 + a4 + a3)
         for reason, *arguments in (
             ("expired 2015-10-05T17:09:04Z", "1444064944"), ("not before 2015-10-04T07:49:04Z", "1443944943"),
             ("for another receiver, 'coap://light", "1443944944", "--aud", "x"), ("no claim room", "1443944944", "--need", "room"),
+            ("for a receiver, 'coap://light.example.com', and none is named here: --aud", "1443944944"),
         ):
             out, told, status = self.verify(a3, "--now", *arguments, keys=keys)
             self.assertEqual((out, status), (b"", 1))
             self.assertIn(reason, told)
-        self.passes(a3, "--now", "1444064950", "--leeway", "10", keys=keys)
+        self.passes(a3, "--now", "1444064950", "--leeway", "10", "--any-aud", keys=keys)
 
     def test_several_signers(self):
         two = signed([({1: -7}, KID, ecdsa(P256, hashes.SHA256())), ({1: -8}, {4: b"ed"}, ED.sign)])
@@ -200,6 +216,14 @@ class Tools(unittest.TestCase):
         self.refused([("Judged", "signature 2 of 2: EdDSA under hex:6564.pem, 6564 \\(\"ed\"\\): the signature isn't good", one_bad)])
         out, told, _ = self.verify(one_bad + two + one_bad + GOOD + two, status=1)
         self.assertEqual(out, two + GOOD + two, told)
+        # In other encodings, with lists that end by a break.
+        parts = cbor2.loads(two).value
+        open_list = h("9f") + b"".join(h("9f") + b"".join(map(cbor2.dumps, each)) + h("ff") for each in parts[3]) + h("ff")
+        deep = h("a16178") + h("81") * 40 + h("5f4101ff")
+        for unprotected, kept in ((h("bfff"), h("a0")), (h("a0"), h("a0")), (deep, h("a16178") + h("81") * 40 + h("4101"))):
+            message = h("da000000629f40") + unprotected + h("5f41684169ff") + open_list + h("ff")
+            canonical = h("d86284") + h("40") + kept + cbor2.dumps(b"hi") + cbor2.dumps(parts[3])
+            self.passes(GOOD + message + GOOD + two, as_bytes=GOOD + canonical + GOOD + two)
 
     def test_macs(self):
         keys = self.put("macs", cbor2.dumps([{1: 4, 2: b"m", -1: SECRET}, {1: 4, 2: b"w", 3: 4, -1: SECRET}]))
@@ -300,10 +324,13 @@ class Tools(unittest.TestCase):
         good = token(claims(_4=NOW + 60))
         self.refused([("Judged", reason, token(payload)) for reason, payload in (
             ("expired 2023-11-14T22:13:20Z, and it is 2023-11-14T22:13:20Z", claims(_4=NOW)),
-            ("expired", claims(_4=-1)), ("expired -inf", claims(_4=float("-inf"))),
+            ("expired", claims(_4=-1)), ("exp isn't a finite time", claims(_4=float("inf"))),
+            ("exp isn't a finite time", claims(_4=float("-inf"))), ("nbf isn't a finite time", claims(_5=float("-inf"))),
+            ("for a receiver, 'you', and none is named", claims(_3="you")), ("for a receiver, None, and none", claims(_3=None)),
+            ("for a receiver, \\['a', 'b'\\], and none", claims(_3=["a", "b"])),
             ("not before", claims(_5=NOW + 1)), ("not before", claims(_5=NOW + 0.5)), ("not before", claims(_5=1 << 63)),
             ("exp isn't a number", claims(_4="2033")), ("exp isn't a number", claims(_4=True)), ("exp isn't a number", claims(_4=None)),
-            ("exp isn't a number", claims(_4=float("nan"))), ("exp isn't a number", cbor2.dumps({4: cbor2.CBORTag(1, NOW + 60)})),
+            ("exp isn't a finite time", claims(_4=float("nan"))), ("exp isn't a number", cbor2.dumps({4: cbor2.CBORTag(1, NOW + 60)})),
             ("isn't a claims set", b"hi"), ("isn't a claims set", cbor2.dumps([1])), ("isn't a claims set", b""),
             ("bytes after the item", claims(_4=NOW + 60) + b"\0"), ("the key 4 twice", h("a2041a7fffffff0401")),
             ("isn't a claims set", cbor2.dumps({b"x": 1})), ("a number, a text nor bytes", h("a1f401")),
@@ -312,6 +339,10 @@ class Tools(unittest.TestCase):
         self.passes(token(claims(_4=NOW + 0.5, _5=NOW)) + token(claims()), "--now", str(NOW))
         self.assertIn("no claim exp", self.verify(token(claims()), "--now", str(NOW), "--need", "exp", status=1)[1])
         self.passes(token(cbor2.dumps({3: ["a", "b"]})), "--now", str(NOW), "--aud", "b")
+        self.passes(token(cbor2.dumps({3: ["a", "b"]})) + token(claims()), "--now", str(NOW), "--any-aud")
+        self.passes(token(cbor2.dumps({3: "a"})))
+        undefined = token(h("a10182f7f4"))
+        self.assertIn("of another issuer, [undefined, False]", self.verify(undefined, "--now", "--iss", "you", status=1)[1])
         self.assertIn("another issuer, 'me'", self.verify(token(claims()), "--now", "--iss", "you", status=1)[1])
 
     def test_damage(self):
@@ -335,7 +366,13 @@ class Tools(unittest.TestCase):
         for status, words, *arguments in (
             (2, "required: --keys"), (2, "unrecognized", "--keys", self.keys, "file"), (2, "invalid", "--keys", self.keys, "--aad", "xx"),
             (2, "less than 0", "--keys", self.keys, "--now", "--leeway", "-1"),
-            (2, "are for --now", "--keys", self.keys, "--aud", "x"), (2, "invalid seconds value", "--keys", self.keys, "--now", "tomorrow"),
+            (2, "are for --now", "--keys", self.keys, "--aud", "x"), (2, "are for --now", "--keys", self.keys, "--any-aud"),
+            (2, "one of them", "--keys", self.keys, "--now", "--aud", "x", "--any-aud"),
+            (2, "invalid whole_number value", "--keys", self.keys, "--now", "0", "--leeway", "9" * 400),
+            (2, "invalid seconds value", "--keys", self.keys, "--now", "9" * 5000), (2, "\\x1b[2J", "--keys", self.keys, "\x1b[2J"),
+            (3, "deep: JSON of too many levels", "--keys", self.put("deep", b"[" * 100_000)),
+            (3, "surrogates", "--keys", self.put("half.json", b'{"kty":"oct","k":"AAAA","kid":"\\ud800"}')),
+            (2, "invalid seconds value", "--keys", self.keys, "--now", "tomorrow"),
             (3, "No such file", "--keys", "nosuch"), (3, "no key in it", "--keys", self.put("text", b"hello")),
             (3, "no key in it", "--keys", self.put("empty", b"")), (3, "no key in it", "--keys", self.put("none.json", b'{"keys": []}')),
             (3, "not a good key", "--keys", self.put("bad.pem", b"-----BEGIN PUBLIC KEY-----\nAAAA\n-----END PUBLIC KEY-----\n")),
@@ -357,6 +394,108 @@ class Tools(unittest.TestCase):
         limited = self.put("limited", cbor2.dumps([{**to_cose(P256, b"dev1"), 4: [1]}, {**to_cose(P256, b"dev1"), 3: -9}]))
         self.assertRegex(self.verify(GOOD, keys=limited, status=1)[1], "its operations don't have this one; .*it is for ESP256 alone")
         self.assertEqual(self.verify(b"", status=0)[1], "passed 0, refused 0\n")
+
+    def test_one_message(self):
+        for status, words, out, data in (
+            (0, "passed 1, refused 0", GOOD, GOOD), (1, "passed 0, refused 1", b"", flipped(GOOD)),
+            (1, "refused: the input is empty", b"", b""),
+            (1, "refused: more than one message", b"", GOOD + GOOD), (1, "refused: more than one message", b"", GOOD * 2000),
+            (1, "refused: more than one message", b"", GOOD + GOOD[:9]), (1, "refused: more than one message", b"", GOOD + b"\xff"),
+            (4, "stopped: decode: Io(EndOfFile)\n  item 1 at 0: ", b"", GOOD[:-1]), (4, "stopped: decode: ", b"", b"\xff" + GOOD),
+        ):
+            with self.subTest(words=words):
+                wrote, told, _ = self.verify(data, "--one", status=status)
+                self.assertEqual(wrote, out)
+                self.assertIn(words, told)
+        large = sign1({1: -7}, KID, payload=bytes(300_000))
+        self.assertEqual(self.verify(large, "--one", status=0)[0], large)
+        token = sign1({1: -7}, KID, payload=claims(_4=NOW + 60))
+        self.assertEqual(self.verify(b"\xd8\x3d" + token, "--one", "--now", str(NOW), status=0)[0], token)
+        process = subprocess.Popen([VERIFY, "--keys", self.keys, "--one"], stdin=subprocess.PIPE, stdout=subprocess.PIPE,
+                                   stderr=subprocess.PIPE)
+        os.write(process.stdin.fileno(), GOOD)
+        time.sleep(0.5)
+        os.write(process.stdin.fileno(), b"\0")    # which ends the run, though there may be more to come
+        self.assertEqual((process.stdout.read(), process.stderr.read(), process.wait()), (b"", b"refused: more than one message\n", 1))
+        for pipe in (process.stdin, process.stdout, process.stderr):
+            pipe.close()
+
+    def test_names_that_a_terminal_obeys(self):
+        folder = folder_of(self.folder, "dev1", P256)
+        with open(os.path.join(folder, "\x1b[2J\n.pem"), "wb") as file:
+            file.write(b"-----BEGIN nothing")
+        told = self.verify(GOOD, keys=folder, status=0)[1]
+        self.assertIn("keys: \\x1b[2J\\x0a.pem: key 1: no PEM", told)
+        self.assertNotIn("\x1b", told)
+
+    def test_what_nobody_expects(self):
+        """Never Python's own status 1, and one line."""
+        self.put("cryptography.py", b"raise ValueError('an error\\nthat nobody expects')")
+        for tool in ("cose-verify", "cose-key", "cose-make"):
+            done = subprocess.run([os.path.join(HERE, tool)], capture_output=True, env={"PYTHONPATH": self.folder})
+            line = f"{tool}: ValueError: an error\\x0athat nobody expects\n".encode()
+            self.assertEqual((done.returncode, done.stderr), (70, line))
+            folder = os.open("/", os.O_RDONLY)
+            done = subprocess.run([os.path.join(HERE, tool), "--help"], stdin=folder, capture_output=True)
+            os.close(folder)
+            self.assertEqual((done.returncode, done.stdout), (4, b""))
+            self.assertRegex(done.stderr, rb"^(stopped|cose-.*): standard input is a folder\n$")
+
+    # What a sender chooses, and what it costs.
+
+    def many_signatures(self, payload, count):
+        """A COSE_Sign whose records are the square of it."""
+        return h("d8628440a0") + cbor2.dumps(bytes(payload)) + h("9f") + h("8340a040") * count + h("ff")
+
+    def test_memory(self):
+        many = self.many_signatures(20_000, 5000)
+        peak, out, told, status = peak_of("--keys", self.keys, data=GOOD + many + GOOD + many + many + GOOD)
+        self.assertEqual((out, status), (GOOD * 3, 1), told)
+        self.assertIn("\n  signature 1 of 5000: the protected header names no algorithm", told)
+        self.assertLess(peak, 100)
+        peak, out, told, status = peak_of("--keys", self.keys, data=GOOD + bytes(200_000) + GOOD)
+        self.assertEqual((out, status), (GOOD * 2, 1))
+        self.assertLess(peak, 150)
+
+    def test_limited_memory(self):
+        limited = ["bash", "-c", 'ulimit -v 400000; exec "$@"', "bash"]
+        if subprocess.run([*limited, "cose-gate", "--version"], capture_output=True).returncode:
+            self.skipTest("these programs don't run under a limit")
+        many = self.many_signatures(20_000, 5000)
+        done = subprocess.run([*limited, VERIFY, "--keys", self.keys], input=GOOD + many + GOOD, capture_output=True)
+        self.assertEqual((done.stdout, done.returncode), (GOOD * 2, 1), done.stderr)
+        done = subprocess.run([*limited, VERIFY, "--keys", self.keys], input=GOOD + h("5a10000000") + bytes(200 << 20), capture_output=True)
+        self.assertEqual((done.stdout, done.returncode), (GOOD, 4), done.stderr)
+        self.assertRegex(done.stderr, b"\nstopped: memory\n$")
+
+    def counted(self, *names):
+        """An environment in which each run of these programs adds a line to a file, and the file."""
+        made = tempfile.mkdtemp(dir=self.folder)
+        for name in names:
+            with open(os.path.join(made, name), "w", opener=lambda path, flags: os.open(path, flags, 0o755)) as file:
+                file.write(f'#!/bin/sh\necho >> {made}/runs\nexec {shutil.which(name)} "$@"\n')
+        return {**os.environ, "PATH": made + ":" + os.environ["PATH"]}, os.path.join(made, "runs")
+
+    def test_runs_of_programs(self):
+        """Not one for each small COSE_Sign, nor for each byte of a sender who pauses after it."""
+        environment, runs = self.counted("cose-ask")
+        small = self.many_signatures(1, 1)
+        done = subprocess.run([VERIFY, "--keys", self.keys], input=GOOD + small * 300 + GOOD, capture_output=True, env=environment)
+        self.assertEqual((done.stdout, done.returncode, os.path.getsize(runs)), (GOOD * 2, 1, 1))
+        environment, runs = self.counted("cose-gate")
+        process = subprocess.Popen([VERIFY, "--keys", self.keys], stdin=subprocess.PIPE, stdout=subprocess.PIPE, stderr=subprocess.DEVNULL,
+                                   env=environment)
+        message = sign1({1: -7}, KID, payload=bytes(5000))
+        os.write(process.stdin.fileno(), message[:4000])
+        for place in range(4000, 4050):
+            time.sleep(0.025)
+            os.write(process.stdin.fileno(), message[place:place + 1])
+        os.write(process.stdin.fileno(), message[4050:])
+        self.assertEqual(os.read(process.stdout.fileno(), 1 << 16), message)    # though the sender waits
+        process.stdin.close()
+        self.assertEqual(process.wait(), 0)
+        process.stdout.close()
+        self.assertLess(os.path.getsize(runs), 25)
 
     def test_help_and_version(self):
         for tool in ("cose-verify", "cose-key", "cose-make"):
@@ -458,6 +597,10 @@ class Tools(unittest.TestCase):
             (3, "not JSON", *cwt, "{"), (3, "not a JSON object", *cwt, "[]"),
             (3, "there twice", *cwt, '{"iss": "a", "iss": "b"}'), (3, "there twice", *cwt, '{"iss": "a", "1": "b"}'),
             (3, "isn't like +1h", *cwt, '{"exp": "soon"}'), (3, "not a time", *cwt, '{"exp": true}'), (3, "iss: not a text", *cwt, '{"iss": 5}'),
+            (3, "isn't a text in Unicode", *cwt, '{"iss": "\\ud800"}'), (3, "isn't a text in Unicode", *cwt, '{"cti": "\\ud800"}'),
+            (3, "too many levels", *cwt, '{"room": ' + "[" * 800 + "]" * 800 + "}"), (3, "too many levels", *cwt, "[" * 100_000),
+            (3, "isn't like +1h", *cwt, '{"exp": "+%sh"}' % ("9" * 5000)), (3, "isn't like +1h", *cwt, '{"exp": "%s"}' % ("9" * 5000)),
+            (3, "more than 64 bits", *cwt, '{"%s": 1}' % ("9" * 5000)), (3, "more than 64 bits", *cwt, '{"exp": "+%sh"}' % ("9" * 400)),
             (3, "not hex", *cwt, '{"cti": "hex:0"}'), (3, "isn't for it", *cwt, "{}", "--alg", "ES384"),
             (3, "isn't for it", *cwt, "{}", "--alg", "HS256/64"), (3, "not one of", *cwt, "{}", "--alg", "none"),
             (3, "label 4 is in both", *cwt, "{}", "--kid", "a", "--protected", '{"4": "hex:00"}'), (4, "nosuch: No such file", *mine, "--payload", "nosuch"),
