@@ -162,7 +162,7 @@ expect(3, "no key set", small, of=b"")
 # what lends its bytes to Python; a mapped file can be closed afterwards
 write(name, small)
 for lent in (bytearray(small), memoryview(small), memoryview(bytearray(small)), array.array("B", small)):
-    if by_python(lent, KEYS) != b"hello" or gate.stream_ask(b"", lent)[1] != b"hello":
+    if (by_python(lent, KEYS), gate.stream_ask(b"", lent)[1], gate.check(KEYS, b"", lent).passed) != (b"hello", b"hello", small):
         sys.exit(f"c-image.py: cose_gate.py doesn't take a {type(lent).__name__}")
 with open(name, "rb") as file:
     for access in (mmap.ACCESS_READ, mmap.ACCESS_COPY):
