@@ -458,13 +458,14 @@ class Tools(unittest.TestCase):
         self.assertLess(peak, 150)
 
     def test_limited_memory(self):
-        limited = ["bash", "-c", 'ulimit -v 400000; exec "$@"', "bash"]
+        limited = ["bash", "-c", 'ulimit -v 250000; exec "$@"', "bash"]
         if subprocess.run([*limited, "cose-gate", "--version"], capture_output=True).returncode:
             self.skipTest("these programs don't run under a limit")
         many = self.many_signatures(20_000, 5000)
         done = subprocess.run([*limited, VERIFY, "--keys", self.keys], input=GOOD + many + GOOD, capture_output=True)
         self.assertEqual((done.stdout, done.returncode), (GOOD * 2, 1), done.stderr)
-        done = subprocess.run([*limited, VERIFY, "--keys", self.keys], input=GOOD + h("5a10000000") + bytes(200 << 20), capture_output=True)
+        large = h("5a0a000000") + bytes(150 << 20)
+        done = subprocess.run([*limited, VERIFY, "--keys", self.keys], input=GOOD + large, capture_output=True)
         self.assertEqual((done.stdout, done.returncode), (GOOD, 4), done.stderr)
         self.assertRegex(done.stderr, b"\nstopped: memory\n$")
 
