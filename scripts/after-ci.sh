@@ -100,6 +100,7 @@ rows() {
 0|||cose-show one.cbor < /dev/null | cmp - <(cose-show < one.cbor)
 0|||cose-show --keys keys.cbor --aad 01 one.cbor | grep -qx '  judge: yes'
 0|||! cose-show keys.cbor | grep -q 0001020304 && cose-show --secrets keys.cbor | grep -q 0001020304
+0|||python3 ../scripts/shown.py cose-show
 # more than a block of 64 KiB
 0|$T/many|passed 2000, refused 0|cose-gate keys.cbor 01 < $T/many
 0|||[ "$(cose-gate --quiet keys.cbor 01 < $T/many 2>&1 > /dev/null)" = 'passed 2000, refused 0' ]
@@ -147,7 +148,9 @@ rows() {
 4|$T/one.records|stopped: decode: Io(EndOfFile)|cose-ask 01 < cut.cbor
 4|one.cbor|stopped: decode: Io(EndOfFile)|cose-pass $T/one.records 01 < cut.cbor
 4||cose-show: damaged at 50: the input ends inside an item|cose-show cut.cbor
-0|||[ "$(printf '%040d' 0 | cose-show | tail -n 1)" = 'the input looks like text in hex, and has to be binary' ]
+4||cose-show: the input looks like text, and has to be binary (--secrets shows it as items)|printf '%040d' 0 | cose-show
+0|||[ "$(printf '%040d' 0 | cose-show)" = 'the input looks like text in hex, and has to be binary' ]
+0|||[ "$({ printf '%08d' 0; sleep 1; printf '%08d' 0; } | cose-show)" = 'the input looks like text in hex, and has to be binary' ]
 4||cose-show: the gate stops at item 2|cat one.cbor <(printf '\360') one.cbor | cose-show
 4|/dev/null|stopped: decode: Io|cose-gate keys.cbor 01 < .
 4|/dev/null|stopped: decode: Io|cose-ask 01 < .

@@ -3,7 +3,8 @@ use cose_gate_core::{About, Judge, MessageKind};
 use cose_gate_program::CoseKeySet;
 use cose_hmac::HmacSha256;
 use cose_reasons::{
-    KeyBook, OTHER_KIND, Page, Secret, has_short_secret, secret_or_reason, write_wrong_tag,
+    Headers, KeyBook, Look, OTHER_KIND, Page, Secret, has_short_secret, secret_or_reason,
+    write_wrong_tag,
 };
 use std::alloc::{AllocError, Global};
 use std::cell::RefCell;
@@ -72,7 +73,7 @@ impl<'a> Reasons<'a> {
             said.keys = if has_short_secret(keys) { SHORT } else { "" };
         }
         Some(Reasons {
-            book: KeyBook::new(alloc, keys).ok(),
+            book: KeyBook::new(alloc, Look::least(), keys).ok(),
             aad_len,
             mac: None,
             is_shared: false,
@@ -128,7 +129,12 @@ fn begun<'b>(
 ) -> Option<Secret<'b>> {
     match (about.kind, book) {
         (MessageKind::Mac0, Some(book)) => {
-            secret_or_reason(book, about.protected, about.unprotected, page)
+            let headers = Headers {
+                protected: about.protected,
+                unprotected: about.unprotected,
+                hides_id: false,
+            };
+            secret_or_reason(book, headers, page)
         }
         (MessageKind::Mac0, None) => None,
         _ => {
