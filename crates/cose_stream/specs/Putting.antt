@@ -10,7 +10,7 @@ use Rattle.cose_stream.specs.declared.stop.StreamStop.TheVariants as stop
 use Rattle.cose_stream.specs.declared.under.NoFile.{NoFile}
 use Rattle.cose_stream.specs.declared.under.NoFile.TheVariants as none
 use Rattle.cose_stream.specs.declared.under.NotMade.{NotMade}
-use Rattle.cose_stream.specs.declared.under.NotMade.TheVariants as not
+use Rattle.cose_stream.specs.declared.under.NotMade.TheVariants as unmade
 use Rattle.cose_stream.specs.declared.under.Under.{Under}
 use Rattle.cose_stream.specs.declared.under.Under.TheVariants as under
 
@@ -27,7 +27,7 @@ part_name name n = name ++ (codes ".part" ++ number_text n)
 -- the first n of these are there, so that none of them could be made
 abbrev pub are_there : List ℕ → ℕ → List Step
 are_there name zero = []
-are_there name (suc n) = are_there name n ++ made (part_name name n) (Some not.IsThere) ∷ []
+are_there name (suc n) = are_there name n ++ made (part_name name n) (Some unmade.IsThere) ∷ []
 
 -- what is done of a part that this run has made: after a yes it is on the disk, and then in its
 -- place; else, or if one of these fails, it is removed, or that fails too
@@ -55,10 +55,10 @@ refusal_of name it = if bytes_eq name (codes "-") then Some none.Dash else under
 
 -- why there is no part: another fault than that it is there
 abbrev pub no_part : NotMade → NoFile
-no_part not.IsThere = none.Taken
-no_part not.NoFolder = none.NoFolder
-no_part not.NoPermission = none.NoPermission
-no_part not.Fault = none.NotMade
+no_part unmade.IsThere = none.Taken
+no_part unmade.NoFolder = none.NoFolder
+no_part unmade.NoPermission = none.NoPermission
+no_part unmade.Fault = none.NotMade
 
 -- what was done so that no part is there: so many names were there, and then making one failed, or
 -- they were all, or it is out of memory
