@@ -244,8 +244,9 @@ fn write_no_key<P: fmt::Write>(book: &KeyBook<'_>, id: Id<'_>, page: &mut Page<'
             break;
         }
         page.write_str(if shown == 0 { "; its ids are " } else { ", " });
+        let bytes = entry.0;
         let other = Id {
-            bytes: entry.0,
+            bytes,
             is_hidden: false,
         };
         write_id(book, other, page);
