@@ -41,9 +41,11 @@ pub(crate) fn say_more<W: Write>(notice: &Notice, place: Place, note: &RefCell<N
 pub fn say_keys<W: Write>(note: &RefCell<Note>, out: &mut W)
     ensures { Adds W.Write true out.old out.new }
 {
-    if let Ok(note) = note.try_borrow() {
-        write_more(note.keys, "", out);
-    }
+    let keys = match note.try_borrow() {
+        Ok(note) => note.keys,
+        Err(_) => "",
+    };
+    write_more(keys, "", out);
     flush(out);
 }
 

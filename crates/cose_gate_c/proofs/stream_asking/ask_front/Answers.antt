@@ -20,8 +20,8 @@ returns-in-Ok c =
 
 pub returns : goal.returns
 returns c =
-    let u = subst (λ (n : ℕ). IsUnasked 4 n c.unasked-in-Err.result) c.fault_number.ensures c.unasked-in-Err.ensures in
-    let s = stops (plain c.args.limits.nesting c.args.limits.layers) _ (let h : length c.args.input.now < 2 ^ 63 = omega arith in h) (λ n. IsUnasked 4 n c.unasked-in-Err.result) _ c.in-Err.fault
+    let u = subst (λ (n : ℕ). IsUnasked 4 n c.unasked.result) c.fault_number.ensures c.unasked.ensures in
+    let s = stops (plain c.args.limits.nesting c.args.limits.layers) _ (let h : length c.args.input.now < 2 ^ 63 = omega arith in h) (λ n. IsUnasked 4 n c.unasked.result) _ c.in-Err.fault
     (left_of (λ (s : Bor (List ℕ)). Some s.now) c.from-decoder.result) (offset_of c.from-decoder.result)
     (rw (c.from-decoder.ensures.0, c.from-decoder.ensures.2) refl) c.from-decoder.ensures.1 c.in-Err.ensures.err
     (answered c.args.limits.nesting c.args.limits.layers _ _ _ _ (Err c.in-Err.fault) c.in-Err.ensures.err) u u.fault_is in
