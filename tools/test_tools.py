@@ -32,9 +32,9 @@ def run(tool, *arguments, data=b"", status=None):
     return done.stdout, told, done.returncode
 
 
-PEAK = """import atexit, resource, runpy, sys
+PEAK = """import atexit, re, runpy, sys
 path, sys.path[0], *sys.argv = sys.argv[1:]
-atexit.register(lambda: open(path, "w").write(str(resource.getrusage(resource.RUSAGE_SELF).ru_maxrss)))
+atexit.register(lambda: open(path, "w").write(re.search(r"VmHWM:\\s*(\\d+)", open("/proc/self/status").read())[1]))
 runpy.run_path(sys.argv[0], run_name="__main__")"""
 
 
