@@ -1,5 +1,5 @@
 -- The line and the status of an end.
-use Rattle.std.specs.Prelude.{ℕ, zero, suc, List, [], ◌++◌, Option, Bool, true, false, Result, Ok, Err, codes}
+use Rattle.std.specs.Prelude.{ℕ, List, [], ◌++◌, Option, Bool, true, false, Result, Ok, Err, codes, nat_eq, if◌then◌else◌}
 use Rattle.ciborium_ll.specs.declared.write.Write.{Ghosts as Writes}
 use Rattle.cose_gate_program.specs.Beginning.{status_of}
 use Rattle.cose_gate_program.specs.Lines.{not_begun_line, stopped_line}
@@ -50,9 +50,9 @@ why_line fault keys (Err (stop.NoFile why)) = indented (no_file_text why)
 
 -- the line if so many parts of other runs are there
 abbrev pub others_line : ℕ → List ℕ
-others_line zero = []
-others_line (suc n) =
-    indented (codes "FILE.part is there: another run is at it, or was killed")
+others_line n =
+    if nat_eq n 0 then []
+    else codes "  FILE.part is there: another run is at it, or was killed\n"
 
 -- what is said of an end: its line, and why; or, if it is verbose, lines that begin with two blanks
 abbrev pub SaysEnd : {W F : Type 0} → Writes W F → Bool → List ℕ → Option (List ℕ)

@@ -53,10 +53,10 @@ pub fn stream<R: Read, W: Write>(
 }
 
 /// Checks the message with these keys.
-fn check<R: Read, W: Write>(
+fn check<'b, R: Read, W: Write>(
     alloc: Global,
-    beginning: &Beginning,
-    reasons: Option<Reasons<'_>>,
+    beginning: &'b Beginning,
+    reasons: Option<Reasons<'b>>,
     input: &mut R,
     out: &mut W,
 ) -> Result<(), StreamStop>

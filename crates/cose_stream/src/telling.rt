@@ -90,10 +90,16 @@ fn write_why<E: Write>(end: &Result<(), StreamStop>, file: KeyFile<'_>, err: &mu
 fn write_others<E: Write>(others: u8, err: &mut E)
     ensures { Wrote E.Write err.old err.new (spec.others_line others) }
 {
-    if 0 < others {
-        write_indented(OTHERS, "", err);
+    write(others_text(others), err);
+}
+
+fn others_text(others: u8) -> &'static str
+    ensures { result.now ≡ spec.others_line others }
+{
+    if others == 0 {
+        return "";
     }
-    let _ = err.flush();
+    "  FILE.part is there: another run is at it, or was killed\n"
 }
 
 const OTHERS: &str = "FILE.part is there: another run is at it, or was killed";
