@@ -2,15 +2,13 @@
 ghost use Rattle.std.specs.Prelude.{◌≡◌, None, option_copied};
 ghost use Rattle.std.specs.Prelude.{Err, IfErr, IfOk, OnOk};
 ghost use Rattle.ciborium_ll.specs.Views.{left_of, offset_of, reader_of, waiting_of};
-ghost use Rattle.cose_gate.specs.HmacJudges.{says_yes};
-ghost use Rattle.cose_gate.specs.KeyView.{key_set_view};
 ghost use Rattle.cose_stream.specs.Streams.{Ended, IsEnd, IsNoEnd, Streams, failures_after};
 
 use crate::stop::{StreamRefusal, StreamStop, stopped_by};
 use ciborium_ll::{Decoder, Error, Read, Write};
-use cose_gate::{GateFault, HmacJudge, InputFault, Limits, de, stream_check_into};
+use cose_gate::{GateFault, HmacJudge, InputFault, Judge, Limits, de, stream_check_into};
 use cose_gate_command::{Explained, Note, Reasons};
-use cose_gate_program::{Beginning, begin};
+use cose_gate_program::begin;
 use std::alloc::Global;
 use std::cell::RefCell;
 
@@ -48,29 +46,29 @@ pub fn stream<R: Read, W: Write>(
     ensures lent { W.handle out.new ≡ W.handle out.old }
 {
     let beginning = begin(alloc, terms.keys, terms.aad)?;
-    let reasons = Reasons::noted(alloc, &beginning.keys, beginning.aad.len(), terms.note);
-    check(alloc, &beginning, reasons, input, out)
+    let aad = beginning.aad.as_slice();
+    let judge = HmacJudge::new(&beginning.keys);
+    let reasons = Reasons::noted(alloc, &beginning.keys, aad.len(), terms.note);
+    let mut judge = Explained { judge, reasons };
+    check(alloc, aad, &mut judge, input, out)
 }
 
-/// Checks the message with these keys.
-fn check<'b, R: Read, W: Write>(
+/// Checks the message by this judge.
+fn check<R: Read, J: Judge, W: Write>(
     alloc: Global,
-    beginning: &'b Beginning,
-    reasons: Option<Reasons<'b>>,
+    aad: &[u8],
+    judge: &mut J,
     input: &mut R,
     out: &mut W,
 ) -> Result<(), StreamStop>
-    ensures ended { Ended (says_yes (key_set_view beginning.now.keys)) beginning.now.aad.items
-        (R.left input.old) W.Write out.old out.new result }
+    ensures ended { Ended (J.yes (J.who judge.old)) aad.now (R.left input.old) W.Write out.old
+        out.new result }
     ensures failed { R.failed input.new ≡ failures_after result (R.failed input.old) }
     ensures kept { R.handle input.new ≡ R.handle input.old }
     ensures lent { W.handle out.new ≡ W.handle out.old }
 {
-    let judge = HmacJudge::new(&beginning.keys);
-    let mut judge = Explained { judge, reasons };
     let mut decoder = Decoder::from(input);
     let mut buffer = [0; PIECE];
-    let aad = beginning.aad.as_slice();
     let limits = Limits::default();
     let streamed = match stream_check_into(
         alloc,
@@ -78,7 +76,7 @@ fn check<'b, R: Read, W: Write>(
         &mut decoder,
         &mut buffer,
         aad,
-        &mut judge,
+        judge,
         out,
     ) {
         Ok(streamed) => streamed,
