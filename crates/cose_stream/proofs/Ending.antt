@@ -8,8 +8,6 @@ use Rattle.ciborium_ll.specs.Reading.{Moves, due}
 use Rattle.ciborium_ll.specs.declared.hdr.Header.{Header}
 use Rattle.ciborium_ll.specs.declared.write.Write.{Ghosts as Writing}
 use Rattle.cose_gate.specs.Findings.{usual, plain}
-use Rattle.cose_gate.specs.HmacJudges.{says_yes}
-use Rattle.cose_gate.specs.KeyFields.{KeyFields}
 use Rattle.cose_gate.specs.ReadError.TheVariants as de
 use Rattle.cose_gate.specs.GateFault.TheVariants as gating
 use Rattle.coset_labels.specs.Limits.{nesting, layers}
