@@ -5,8 +5,7 @@
  *   nothing else that is passed in the same call; inputs may overlap. No length is above PTRDIFF_MAX. Nothing is kept after a call.
  * Others: nobody else writes to an input while a call reads it, or to a message as long as what an answer tells of it, as its payload, is
  *   used. A mapped file is no copy, not even with MAP_PRIVATE: what others write to the file later shows in it, and if they shorten it a
- *   signal ends the process. So read the file into memory of your own, or into a sealed memfd (examples/c/sealed.h); or have `cose-gate
- *   --stream --payload FILE` check it, which reads it once.
+ *   signal ends the process. So read the file into memory of your own, or into a sealed memfd (examples/c/sealed.h).
  * Memory: a call takes memory by malloc, realloc and free, and has given all of it back when it returns. If it runs out of memory, the last
  *   line is `stopped: memory`, in place of the one that the run ended with. A call holds one item, which a sender can make large: an item of
  *   small integers takes 32 times its bytes, one of many small signatures or recipients up to 180 times (docs/TIMES.md, "Memory").
