@@ -110,7 +110,7 @@ cose_gate_answer cose_gate_pass(const uint8_t *accepted, size_t accepted_length,
  *
  * cose_gate_stream_check checks the message at the front of `message`: a COSE_Mac0 with its tag, 17, whose payload is a byte string that states
  * its length in front (RFC 9052, section 6.2). It judges as cose_gate_check does: by HMAC with SHA-256 under the first key of `keys` that fits.
- * The payload is hashed 4 KiB at a time, and never copied as a whole. The message is read to its end before it is judged. What
+ * The payload is hashed 4 KiB at a time, and never copied as a whole. The message is read once, to its end, before it is judged. What
  * comes after it is not read, and its tag doesn't cover that: all of an image is good only if `length` is also `message_length`.
  *
  * COSE_GATE_ALL_PASSED: the tag is good. COSE_GATE_SOME_REFUSED: it isn't, no key fits, or the message is a COSE_Sign1, which is read but has

@@ -38,8 +38,8 @@ rows() {
 2|/dev/null|usage: cose-gate [--strict] [--verbose] [--quiet] KEYS [AADHEX] < INPUT > PASSED|cose-gate keys.cbor $'\xff' < one.cbor
 2|/dev/null|usage: cose-gate [--strict] [--verbose] [--quiet] KEYS [AADHEX] < INPUT > PASSED|../cose-gate --strikt keys.cbor
 2|/dev/null|usage: cose-gate [--strict] [--verbose] [--quiet] KEYS [AADHEX] < INPUT > PASSED|cose-gate keys.cbor --strikt < one.cbor
-2|/dev/null|usage: cose-gate --stream [--payload FILE] KEYS [AADHEX] < MESSAGE|cose-gate --stream --strict keys.cbor < one.cbor
-2|/dev/null|usage: cose-gate --stream [--payload FILE] KEYS [AADHEX] < MESSAGE|../cose-gate --stream --payload keys.cbor < one.cbor
+2|/dev/null|usage: cose-gate --stream [--payload FILE] [--verbose] KEYS [AADHEX] < MESSAGE|cose-gate --stream --strict keys.cbor < one.cbor
+2|/dev/null|usage: cose-gate --stream [--payload FILE] [--verbose] KEYS [AADHEX] < MESSAGE|../cose-gate --stream --payload keys.cbor < one.cbor
 2|/dev/null|usage: cose-ask [--strict] [--lines] [--fields] [AADHEX]|cose-ask --strikt < one.cbor
 2|/dev/null|usage: cose-ask [--strict] [--lines] [--fields] [AADHEX]|cose-ask 01 02 < one.cbor
 2|/dev/null|usage: cose-ask [--strict] [--lines] [--fields] [AADHEX]|cose-ask $'\xff' < one.cbor
@@ -100,6 +100,7 @@ rows() {
 0|||cose-show one.cbor < /dev/null | cmp - <(cose-show < one.cbor)
 0|||cose-show --keys keys.cbor --aad 01 one.cbor | grep -qx '  judge: yes'
 0|||! cose-show keys.cbor | grep -q 0001020304 && cose-show --secrets keys.cbor | grep -q 0001020304
+0|||python3 ../scripts/shown.py cose-show
 # more than a block of 64 KiB
 0|$T/many|passed 2000, refused 0|cose-gate keys.cbor 01 < $T/many
 0|||[ "$(cose-gate --quiet keys.cbor 01 < $T/many 2>&1 > /dev/null)" = 'passed 2000, refused 0' ]
@@ -112,12 +113,34 @@ rows() {
 # one large message
 0|/dev/null|passed|cose-gate --stream keys.cbor 01 < one.cbor
 0|/dev/null|passed|cose-gate --stream --payload $T/payload keys.cbor 01 < one.cbor && printf hi | cmp - $T/payload && [ ! -e $T/payload.part ]
-1|/dev/null|refused: Judged|cose-gate --stream --payload $T/payload keys.cbor < one.cbor; s=$?; printf hi | cmp - $T/payload && [ ! -e $T/payload.part ] && exit $s
 3|/dev/null|  no such file|cose-gate --stream nosuch 01 < one.cbor
-4|/dev/null|stopped: write|cose-gate --stream --payload $T/no/payload keys.cbor 01 < one.cbor
-4|/dev/null|stopped: write|cose-gate --stream --payload $T keys.cbor 01 < one.cbor; s=$?; [ ! -e $T.part ] && exit $s
-1|/dev/null|refused: Judged|{ printf '\321\204\103\241\1\5\240\132\4\0\0\0'; head -c 67108864 /dev/zero; printf '\130\40'; head -c 32 /dev/zero; } | (ulimit -v 20000; cose-gate --stream --payload $T/large keys.cbor)
-4|/dev/null|stopped: write|{ printf '\321\204\103\241\1\5\240\132\4\0\0\0'; head -c 67108864 /dev/zero; printf '\130\40'; head -c 32 /dev/zero; } | (trap '' XFSZ; ulimit -f 100; cose-gate --stream --payload $T/large keys.cbor); s=$?; [ ! -e $T/large.part ] && exit $s
+1|/dev/null|refused: Judged|{ printf '\321\204\103\241\1\5\240\132\4\0\0\0'; head -c 67108864 /dev/zero; printf '\130\40'; head -c 32 /dev/zero; } | (ulimit -v 20000; cose-gate --stream --payload $T/large keys.cbor); s=$?; [ ! -e $T/large ] && [ ! -e $T/large.part ] && exit $s
+4|/dev/null|stopped: write|{ printf '\321\204\103\241\1\5\240\132\4\0\0\0'; head -c 67108864 /dev/zero; printf '\130\40'; head -c 32 /dev/zero; } | (trap '' XFSZ; ulimit -f 100; cose-gate --stream --payload $T/large keys.cbor); s=$?; [ ! -e $T/large ] && [ ! -e $T/large.part ] && exit $s
+# its reasons
+1|/dev/null|  the tag isn't that of the first matching key, with 0 bytes of external data|cose-gate --stream --verbose keys.cbor < one.cbor
+1|/dev/null|  cose-gate judges only COSE_Mac0: see cose-verify(1)|printf '\322\204\103\241\1\46\240\101\0\101\0' | cose-gate --stream --payload $T/none --verbose keys.cbor
+4|/dev/null|  item 1 at 0: the input ends inside the item|head -c 30 one.cbor | cose-gate --stream keys.cbor 01 --verbose
+3|/dev/null|  nosuch: no such file|cose-gate --stream --verbose nosuch 01 < one.cbor
+# FILE stays as it was after a refusal, and keeps its mode
+1|/dev/null|refused: Judged|LC_ALL=C sed s/Bhi/Bho/ one.cbor | cose-gate --stream --payload $T/payload keys.cbor 01; s=$?; printf hi | cmp - $T/payload && [ ! -e $T/payload.part ] && exit $s
+1|/dev/null|refused: ExtraneousData|cat one.cbor one.cbor | cose-gate --stream --payload $T/none keys.cbor 01; s=$?; [ ! -e $T/none ] && [ ! -e $T/none.part ] && exit $s
+0|/dev/null|passed|: > $T/mode; chmod 640 $T/mode; umask 077; cose-gate --stream --payload $T/mode keys.cbor 01 < one.cbor && [ $(stat -c %a $T/mode) = 640 ]
+0|||{ head -c 40 one.cbor; sleep 2; } | cose-gate --stream --payload $T/half keys.cbor 01 2> /dev/null & sleep 1; [ -e $T/half.part ] && [ ! -e $T/half ]; s=$?; wait; exit $s
+# two runs with one FILE; what another run, a link or a FIFO has as FILE.part stays
+0|/dev/null|passed|{ head -c 40 one.cbor; timeout 20 bash -c 'until [ -e $T/two.part ]; do sleep .1; done'; LC_ALL=C sed s/Bhi/Bho/ one.cbor | cose-gate --stream --payload $T/two keys.cbor 01 2> $T/said; tail -c +41 one.cbor; } | cose-gate --stream --payload $T/two keys.cbor 01 && printf hi | cmp - $T/two && [ ! -e $T/two.part ] && [ ! -e $T/two.part1 ] && cmp $T/said <(printf 'refused: Judged\n  FILE.part is there: another run is at it, or was killed\n')
+0|/dev/null|  FILE.part is there: another run is at it, or was killed|printf x > $T/kept; ln -s kept $T/new.part; cose-gate --stream --payload $T/new keys.cbor 01 < one.cbor && printf x | cmp - $T/kept && printf hi | cmp - $T/new && [ -L $T/new.part ] && [ ! -e $T/new.part1 ]
+0|/dev/null|  FILE.part is there: another run is at it, or was killed|printf x > $T/hard; ln $T/hard $T/twin.part; cose-gate --stream --payload $T/twin keys.cbor 01 < one.cbor && printf x | cmp - $T/hard && printf hi | cmp - $T/twin
+0|/dev/null|  FILE.part is there: another run is at it, or was killed|mkfifo $T/fifo.part $T/fifo.part1; timeout 20 cose-gate --stream --payload $T/fifo keys.cbor 01 < one.cbor && [ -p $T/fifo.part ] && [ -p $T/fifo.part1 ] && printf hi | cmp - $T/fifo
+4|/dev/null|  FILE.part and FILE.part1 to FILE.part99 are there|for n in '' {1..99}; do : > $T/all.part$n; done; (cose-gate --stream --payload $T/all keys.cbor 01; s=$?; cmp - one.cbor && exit $s) < one.cbor; s=$?; [ ! -e $T/all ] && rm $T/all.part* && exit $s
+0|/dev/null|  FILE.part is there: another run is at it, or was killed|for n in '' {1..98}; do : > $T/last.part$n; done; cose-gate --stream --payload $T/last keys.cbor 01 < one.cbor && printf hi | cmp - $T/last && [ ! -e $T/last.part99 ]
+# FILE that is no regular file: nothing is read, and it stays
+4|/dev/null|  FILE is there, and no regular file|ln -s kept $T/link; (cose-gate --stream --payload $T/link keys.cbor 01; s=$?; cmp - one.cbor && exit $s) < one.cbor; s=$?; printf x | cmp - $T/kept && [ -L $T/link ] && exit $s
+4|/dev/null|  FILE is there, and no regular file|mknod $T/null c 1 3 2> /dev/null || mkfifo $T/null; timeout 20 cose-gate --stream --payload $T/null keys.cbor 01 < one.cbor; s=$?; [ ! -f $T/null ] && [ ! -e $T/null.part ] && exit $s
+4|/dev/null|  FILE is there, and no regular file|cose-gate --stream --payload $T keys.cbor 01 < one.cbor; s=$?; [ ! -e $T.part ] && exit $s
+4|/dev/null|  FILE is -; a payload goes into a file, once its MAC is checked|cd $T && cose-gate --stream --payload - $OLDPWD/keys.cbor 01 < $OLDPWD/one.cbor; s=$?; [ ! -e - ] && [ ! -e -.part ] && exit $s
+4|/dev/null|  it can't be told whether FILE is there|cose-gate --stream --payload '' keys.cbor 01 < one.cbor
+4|/dev/null|  the folder of FILE isn't there|cose-gate --stream --payload $T/no/payload keys.cbor 01 < one.cbor
+4|/dev/null|  no permission to make FILE.part|mkdir $T/closed && chmod 555 $T/closed; $nobody cose-gate --stream --payload $T/closed/payload keys.cbor 01 < one.cbor
 # what stops a run
 4|one.cbor|stopped: decode: Io(EndOfFile)|cose-gate keys.cbor 01 < cut.cbor
 4|one.cbor|  nothing after it is judged; cose-show --cut 1 DIR writes each item to its own file|cose-gate --verbose keys.cbor 01 < cut.cbor
@@ -125,7 +148,9 @@ rows() {
 4|$T/one.records|stopped: decode: Io(EndOfFile)|cose-ask 01 < cut.cbor
 4|one.cbor|stopped: decode: Io(EndOfFile)|cose-pass $T/one.records 01 < cut.cbor
 4||cose-show: damaged at 50: the input ends inside an item|cose-show cut.cbor
-0|||[ "$(printf '%040d' 0 | cose-show | tail -n 1)" = 'the input looks like text in hex, and has to be binary' ]
+4||cose-show: the input looks like text, and has to be binary (--secrets shows it as items)|printf '%040d' 0 | cose-show
+0|||[ "$(printf '%040d' 0 | cose-show)" = 'the input looks like text in hex, and has to be binary' ]
+0|||[ "$({ printf '%08d' 0; sleep 1; printf '%08d' 0; } | cose-show)" = 'the input looks like text in hex, and has to be binary' ]
 4||cose-show: the gate stops at item 2|cat one.cbor <(printf '\360') one.cbor | cose-show
 4|/dev/null|stopped: decode: Io|cose-gate keys.cbor 01 < .
 4|/dev/null|stopped: decode: Io|cose-ask 01 < .
@@ -264,7 +289,7 @@ users() {
 stack() { bash "$top/scripts/small-stack.sh"; }
 heap() {
   local it programs=()
-  for it in bench cose_gate_cli example_token cose_ask_cli cose_pass_cli cose_show; do programs+=("$CRATES/$it/out/$it"); done
+  for it in bench cose_gate_cli example_token cose_ask_cli cose_pass_cli cose_show cose_sift; do programs+=("$CRATES/$it/out/$it"); done
   sh "$top/scripts/capped.sh" "${programs[@]}"
 }
 time_taken() { python3 "$top/scripts/instructions.py"; }

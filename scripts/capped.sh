@@ -1,14 +1,15 @@
 #!/bin/sh
-# capped.sh [BENCH [GATE [TOKEN [ASK [PASS [SHOW]]]]]]: how much memory the programs `bench`, `cose_gate_cli` and `example_token` take, each
-# under the least heap that a small input needs and little more, and how `cose_gate_cli`, `cose_ask_cli`, `cose_pass_cli` and `cose_show`
-# end when they run out of it. They are those that `rt run` leaves in `out/` of these crates, unless others are given.
+# capped.sh [BENCH [GATE [TOKEN [ASK [PASS [SHOW [SIFT]]]]]]]: how much memory the programs `bench`, `cose_gate_cli` and `example_token` take, each
+# under the least heap that a small input needs and little more, and how `cose_gate_cli`, `cose_ask_cli`, `cose_pass_cli`, `cose_show` and
+# `cose_sift` end when they run out of it. They are those that `rt run` leaves in `out/` of these crates, unless others are given.
 #
 # - Heads that claim more than follows them end as bytes that are cut off, and not as out-of-memory: under the least heap for an empty
 #   array or, 256 levels deep, for maps of one entry each.
 # - The gate reads 1,000,000 items under the least heap for 1,000 of them, and a message with 64 text labels under that for one with none.
-#   The streaming check reads a payload of 16 MiB under the least heap for one of 0 bytes.
+#   The streaming check reads a payload of 16 MiB under the least heap for one of 0 bytes, and with `--payload` it writes one of 8 MiB under
+#   that for one of 0 bytes. `cose-sift` leaves out an item of 8 MiB, and one with 65,000 open arrays, under little more than a small one needs.
 # - The gate holds a payload once. A program that makes the bytes that a tag covers holds it once more.
-# - The gate, `cose-ask`, `cose-pass` and `cose-show` end by themselves, and not by a signal, under each limit from the least for an empty
+# - The gate, `cose-ask`, `cose-pass`, `cose-sift` and `cose-show` end by themselves, and not by a signal, under each limit from the least for an empty
 #   input to what a whole run takes. What they write then are whole messages, the first ones, and all of them if the status isn't 4; of
 #   `cose-show`, which writes as it goes, the beginning of a whole run's text.
 #
@@ -23,7 +24,8 @@ token=${3:-$here/crates/example_token/out/example_token}
 ask=${4:-$here/crates/cose_ask_cli/out/cose_ask_cli}
 pass=${5:-$here/crates/cose_pass_cli/out/cose_pass_cli}
 show=${6:-$here/crates/cose_show/out/cose_show}
-for it in "$bench" "$gate" "$token" "$ask" "$pass" "$show"; do
+sift=${7:-$here/crates/cose_sift/out/cose_sift}
+for it in "$bench" "$gate" "$token" "$ask" "$pass" "$show" "$sift"; do
   [ -x "$it" ] || { echo "capped.sh: no $it; run 'rt run' in its crate first" >&2; exit 2; }
 done
 folder=$(mktemp -d) && trap 'rm -rf "$folder"' EXIT || exit 2
@@ -159,6 +161,26 @@ message=$cap
 # half of a second copy is too much
 passes "a payload of 8 MiB through the gate" large $((message + 8192 + 4096))
 passes "64 text labels through the gate" labels "$message"
+# the payload in a file: `payload NAME BYTES KIB` under so many KiB, of the message NAME
+payload() {
+  input=$folder/$1
+  rm -f "$folder/payload"
+  within "a payload of $2 bytes to a file" "$3" 0 "$gate" --stream --payload "$folder/payload" "$folder/keys"
+  [ "$(wc -c < "$folder/payload")" = "$2" ] || { echo "a payload of $2 bytes: another file" >&2; bad=1; }
+}
+input=$folder/message
+least 0 "$gate" --stream --payload "$folder/payload" "$folder/keys"
+payload message 0 "$cap"
+payload large 8388608 "$cap"
+# the sieve: an item that is too long isn't held; of each open array a level of 16 bytes is, in a list that doubles
+input=$folder/message
+least 0 "$sift"
+input=$folder/large
+within "an item of 8 MiB that is left out" "$cap" 1 "$sift"
+levels 65000 '\237' > "$folder/open"
+levels 65000 '\377' >> "$folder/open"
+input=$folder/open
+within "65,000 open arrays that are left out" $((cap + 6 * 1024)) 1 "$sift"
 head -c 1000 /dev/zero > "$folder/items"
 input=$folder/items
 least 1 "$gate" "$folder/keys"
@@ -227,5 +249,6 @@ ends "$ask"
 "$ask" < "$folder/three" > "$folder/accepted" 2> /dev/null
 ends "$pass" "$folder/accepted"
 ends "$show"
+ends "$sift"
 
 [ $bad = 0 ] && echo 'capped.sh: all within' || { echo 'capped.sh: too much' >&2; exit 1; }

@@ -5,7 +5,8 @@
 # - A test in a module `refused`, or named `refused_memory..`, has to hold whichever allocation is refused. Tests named
 #   `X_of_N_bytes_Y` with one X have to make as many allocations as each other, since what they read takes no memory.
 # - A program has to end with status 4, a line that says memory, and a front of its output, after which a string of --json may be ended; or
-#   else with the same status, output and lines, but for indented ones, which may say less. It runs as `rt ci` runs it, and as RUNS says.
+#   else with the same status, output and lines, but for indented ones, which may say less. It runs as `rt ci` runs it, and as RUNS says. What
+#   `--payload` leaves in its folder counts as output: the payload after status 0, and else nothing.
 # With REFUSE=N only the allocation N is refused, and what then is written is shown. Status 1 if something else happens, and 2 if something
 # isn't there.
 set -eu
@@ -33,23 +34,28 @@ void *realloc(void *p, size_t n) { return ++at == refused ? (void *)0 : __libc_r
 END
 "$kit/toolchain/bin/clang" --target=x86_64-unknown-linux-gnu --sysroot="$kit/toolchain" -fuse-ld=lld -nostdlib -O2 -shared -fPIC \
   "$folder/refuse.c" -o "$folder/refuse.so"
-python3 - "$folder/refuse.so" "$top" "${CRATES:-$top/crates}" "$@" <<'END'
+mkdir "$folder/payloads"
+python3 - "$folder/refuse.so" "$folder/payloads" "$top" "${CRATES:-$top/crates}" "$@" <<'END'
 import concurrent.futures
 import itertools
 import os
 import re
+import shutil
 import subprocess
 import sys
+import tempfile
 
-shim, top, crates, *wanted = sys.argv[1:]
+shim, payloads, top, crates, *wanted = sys.argv[1:]
 only = os.environ.get("REFUSE")
 # How programs run beside how `rt ci` runs them, in data/ if they have it: their arguments (ARGS are those of `rt ci`), and their input if it
-# isn't stdin.
+# isn't stdin. FOLDER is one of its own for each run.
 MIXED, KEYS = f"{top}/examples/mixed.cbor", f"{top}/examples/keys.cbor"
 RUNS = {
-    "cose_gate_cli": [("--strict --verbose keys.cbor 01", None), ("--stream keys.cbor 01", f"{top}/examples/one.cbor")],
+    "cose_gate_cli": [("--strict --verbose keys.cbor 01", None), ("--stream keys.cbor 01", f"{top}/examples/one.cbor"),
+                      ("--stream --payload FOLDER/payload keys.cbor 01", f"{top}/examples/one.cbor")],
     "cose_ask_cli": [("--strict 01", None), ("--lines 01", MIXED), ("--fields 01", MIXED)],
     "cose_pass_cli": [("accepted 01", MIXED)],
+    "cose_sift": [("", MIXED), ("--untag --max 48", MIXED)],
     "cose_show": [(f"--full --keys {KEYS} --aad 01", MIXED), ("--json ARGS", None), ("", KEYS), ("--json", KEYS)],
 }
 bad = 0
@@ -63,8 +69,12 @@ def fails(what):
 
 
 def run(words, number, data, at):
+    folder = tempfile.mkdtemp(dir=payloads)
+    words = [word.replace("FOLDER", folder) for word in words]
     ran = subprocess.run(words, input=data, cwd=at, env={"LD_PRELOAD": shim, "REFUSE": str(number)}, capture_output=True, timeout=60)
-    return ran.returncode, ran.stdout, ran.stderr
+    left = b"".join(b"%s after status %d: %s" % (name.encode(), ran.returncode, open(f"{folder}/{name}", "rb").read()) for name in os.listdir(folder))
+    shutil.rmtree(folder)
+    return ran.returncode, ran.stdout + left, ran.stderr
 
 
 def each(words, holds, data=b"", at="/"):

@@ -43,7 +43,7 @@ def mapped(entries):
 
 
 def program(name, ending=""):
-    crate = {"gate": "cose_gate_cli", "ask": "cose_ask_cli", "pass": "cose_pass_cli", "show": "cose_show"}[name]
+    crate = {"gate": "cose_gate_cli", "ask": "cose_ask_cli", "pass": "cose_pass_cli", "show": "cose_show", "sift": "cose_sift"}[name]
     return os.path.join(crates, crate, "out", crate + ending)
 
 
@@ -111,6 +111,9 @@ def sized(number):
     found = {("cose-gate", name): (gate, it) for name, it in inputs.items()}
     found.update({("cose-ask", name): (ask, it) for name, it in parts.items()})
     found.update({("cose-show", name): (show, it) for name, it in {**inputs, **parts}.items()})
+    found.update({("cose-sift", name): ([program("sift")], it) for name, it in {**inputs, **parts}.items()})
+    found["cose-sift", "open arrays inside one another"] = ([program("sift")], b"\x9f" * number + b"\xff" * number)
+    found["cose-sift", "tags"] = ([program("sift"), "--untag"], b"\xd8\x3d" * number + mac0())
     found["cose-gate", "keys"] = ([program("gate"), file(keys(number))], mac0())
     records = subprocess.run([program("ask")], input=mac0() * number, stdout=subprocess.PIPE, stderr=subprocess.DEVNULL).stdout
     found["cose-pass", "messages"] = ([program("pass"), file(records)], mac0() * number)

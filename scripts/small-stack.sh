@@ -2,9 +2,9 @@
 # small-stack.sh [--least]: whether the programs and the library go through the messages of worst-messages.py, in which as much lies inside
 # one another as the limits let through, in the stack that is promised. It takes the proved programs that `rt ci` left in out/, by LLVM and
 # by Rattle's own compiler, and the archive of c-library.sh. CRATES is another folder of crates with such out/.
-# With each message cose-gate, cose-show, cose-ask, cose-pass (with all that cose-ask asks) and conformance_cose (which reads it, copies it,
-# compares both and writes the copy) must do the same as in 64 MiB of stack. As LLVM builds them: the first four in 288 KiB, of which they use
-# 256 before they read anything (`has_stack` of cose_gate_program), the library's calls in 256 KiB, the fifth in 1 MiB, and with the widest
+# With each message cose-gate, cose-sift, cose-show, cose-ask, cose-pass (with all that cose-ask asks) and conformance_cose (which reads it, copies it,
+# compares both and writes the copy) must do the same as in 64 MiB of stack. As LLVM builds them: the first five in 288 KiB, of which they use
+# 256 before they read anything (`has_stack` of cose_gate_program), the library's calls in 256 KiB, the last in 1 MiB, and with the widest
 # limits (4,096 levels, 64 layers) in 8 MiB. Rattle's own compiler gives each value a place of its own in a frame, so what it builds must do
 # with 8 MiB, within the usual limits. Last an item of 100,000 levels is read in 256 KiB: a test of cbor_tests. With --least a table shows
 # the least number of KiB in which each does so, in some minutes. Status 1 if one of these fails, and 2 if something isn't there.
@@ -14,8 +14,8 @@ top=$(cd "$(dirname "$(readlink -f "${BASH_SOURCE[0]}")")/.." && pwd)
 kit=${RT_KIT:-$(dirname "$(dirname "$(readlink -f "$(command -v rt)")")")}
 crates=${CRATES:-$top/crates}
 folder=$(mktemp -d) && trap 'rm -rf "$folder"' EXIT || exit 2
-# The KiB that are promised: to the four programs, to conformance_cose, to the library's calls, and within the widest limits.
-four=288 fifth=1024 library=256 widest=8192
+# The KiB that are promised: to the five programs, to conformance_cose, to the library's calls, and within the widest limits.
+five=288 sixth=1024 library=256 widest=8192
 shows=${1-}
 bad=0
 fails() {
@@ -74,7 +74,7 @@ calls() {
   line="$line | $((check / 1024)), $((ask / 1024)), $((pass / 1024)), $((stream / 1024))"
 }
 
-for it in cose_gate_cli cose_show cose_ask_cli cose_pass_cli conformance_cose; do
+for it in cose_gate_cli cose_sift cose_show cose_ask_cli cose_pass_cli conformance_cose; do
   [ -x "$crates/$it/out/$it" ] && [ -x "$crates/$it/out/$it.by-rattle" ] && continue
   echo "small-stack.sh: no $crates/$it/out/$it by both compilers: run \`rt ci\` first" >&2
   exit 2
@@ -89,20 +89,21 @@ fi
 keys=$top/examples/keys.cbor
 table=$folder/table
 echo "KiB of stack, by LLVM and by Rattle's own compiler
-| message | cose-gate | | cose-gate --stream | | cose-show | | cose-ask | | cose-pass | | conformance_cose | | C: check, ask, pass, stream |
-|---|---|---|---|---|---|---|---|---|---|---|---|---|---|" > "$table"
+| message | cose-gate | | cose-gate --stream | | cose-sift | | cose-show | | cose-ask | | cose-pass | | conformance_cose | | C: check, ask, pass, stream |
+|---|---|---|---|---|---|---|---|---|---|---|---|---|---|---|---|" > "$table"
 limits=
 python3 "$top/scripts/worst-messages.py" "$folder/usual" > "$folder/said" || exit 2
 while read -r name said; do
   message=$folder/usual/$name
   "$crates/cose_ask_cli/out/cose_ask_cli" < "$message" > "$folder/records" 2> /dev/null
   line="| $name"
-  both $four "cose-gate on $name" "$said" "$message" cose_gate_cli "$keys"
-  both $four "cose-gate --stream on $name" "" "$message" cose_gate_cli --stream "$keys"
-  both $four "cose-show on $name" "" "$message" cose_show
-  both $four "cose-ask on $name" "${said/Judged/passed}" "$message" cose_ask_cli
-  both $four "cose-pass on $name" "${said/Judged/passed}" "$message" cose_pass_cli "$folder/records"
-  both $fifth "conformance_cose on $name" "" "$message.row" conformance_cose
+  both $five "cose-gate on $name" "$said" "$message" cose_gate_cli "$keys"
+  both $five "cose-gate --stream on $name" "" "$message" cose_gate_cli --stream "$keys"
+  both $five "cose-sift on $name" "" "$message" cose_sift
+  both $five "cose-show on $name" "" "$message" cose_show
+  both $five "cose-ask on $name" "${said/Judged/passed}" "$message" cose_ask_cli
+  both $five "cose-pass on $name" "${said/Judged/passed}" "$message" cose_pass_cli "$folder/records"
+  both $sixth "conformance_cose on $name" "" "$message.row" conformance_cose
   calls $library 256 16
   echo "$line |" >> "$table"
 done < "$folder/said"

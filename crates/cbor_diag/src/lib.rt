@@ -10,6 +10,7 @@ mod float;
 mod head;
 mod notation;
 mod page;
+mod view;
 mod walk;
 
 pub use crate::ends::Ends;
@@ -17,8 +18,7 @@ pub use crate::escape::{write_char, write_text};
 pub use crate::excess::{Excess, first_excess};
 pub use crate::float::whole_part;
 pub use crate::head::{Head, HeadFault, head_of};
-pub use crate::notation::{
-    CUT, NotWritten, Style, front_text, write_hex, write_item, write_item_without,
-};
+pub use crate::notation::{CUT, NotWritten, Style, front_text, write_hex, write_item, write_view};
 pub use crate::page::Page;
+pub use crate::view::{Span, View};
 pub use crate::walk::{Event, Fault, LevelKind, Place, Step, Walk, Why, item_len};

@@ -3,6 +3,7 @@ use crate::escape::write_text;
 use crate::float::{wide, write_float};
 use crate::head::{Head, head_of};
 use crate::page::Page;
+use crate::view::View;
 use crate::walk::{Event, Fault, LevelKind, Place, Step, Walk, Why};
 use ciborium_ll::Header;
 use std::alloc::{AllocError, AllocFailed, Global};
@@ -117,12 +118,10 @@ impl<T: Drop> From<AllocFailed<T>> for NotWritten {
 
 /// The notation as it is written.
 #[derive(Drop)]
-struct Notation<'h, 'a, 'p, W> {
+struct Notation<'a, 'p, W> {
     alloc: Global,
     page: &'a mut Page<'p, W>,
     style: Style,
-    /// Where items are to come that aren't shown.
-    hidden: &'h [usize],
     /// How many levels are open in one that isn't shown.
     unseen: usize,
     /// How many levels are written on several lines.
@@ -146,17 +145,16 @@ pub fn write_item<W: fmt::Write>(
     indent: usize,
     page: &mut Page<'_, W>,
 ) -> Result<usize, NotWritten> {
-    write_item_without(alloc, bytes, &[], style, indent, page)
+    write_view(alloc, View::open(bytes), style, indent, page)
 }
 
-/// The same with `...` in place of the items that begin at these places, which rise.
+/// The same with `...` in place of the items that aren't shown, and of byte strings that hold one.
 ///
 /// # Errors
 /// Those of `write_item`.
-pub fn write_item_without<W: fmt::Write>(
+pub fn write_view<W: fmt::Write>(
     alloc: Global,
-    bytes: &[u8],
-    hidden: &[usize],
+    view: View<'_>,
     style: Style,
     indent: usize,
     page: &mut Page<'_, W>,
@@ -166,15 +164,14 @@ pub fn write_item_without<W: fmt::Write>(
         alloc,
         page,
         style,
-        hidden,
         unseen: 0,
         indent,
         flat: 0,
         shown: 0,
     };
     for _ in 0..u64::MAX {
-        let step = walk.step(bytes)?;
-        notation.tell(bytes, step);
+        let step = walk.step(view.bytes())?;
+        notation.tell(view, step);
         notation.page.end()?;
         if walk.is_done() {
             break;
@@ -183,14 +180,15 @@ pub fn write_item_without<W: fmt::Write>(
     Ok(walk.at())
 }
 
-impl<'h, 'a, 'p, W: fmt::Write> Notation<'h, 'a, 'p, W> {
+impl<'a, 'p, W: fmt::Write> Notation<'a, 'p, W> {
     /// Writes one step.
-    fn tell(&mut self, bytes: &[u8], step: Step) {
+    fn tell(&mut self, view: View<'_>, step: Step) {
+        let bytes = view.bytes();
         if self.shown > 0 {
             self.shown = self.shown.saturating_sub(1);
             return;
         }
-        if self.unseen > 0 || self.hides(step) {
+        if self.unseen > 0 || is_unseen(view, step) {
             self.leave_out(step);
             return;
         }
@@ -209,20 +207,6 @@ impl<'h, 'a, 'p, W: fmt::Write> Notation<'h, 'a, 'p, W> {
                 self.begin(head_at(header, step), behind(bytes, step.at));
             }
         }
-    }
-
-    /// Whether an item that isn't shown begins with this step.
-    fn hides(&mut self, step: Step) -> bool {
-        if matches!(step.event, Event::End(_)) {
-            return false;
-        }
-        for _ in 0..self.hidden.len() {
-            match self.hidden {
-                [first, rest @ ..] if *first < step.at => self.hidden = rest,
-                _ => break,
-            }
-        }
-        self.hidden.first() == Some(&step.at)
     }
 
     /// Goes over a step of an item that isn't shown.
@@ -436,6 +420,18 @@ impl<'h, 'a, 'p, W: fmt::Write> Notation<'h, 'a, 'p, W> {
             LevelKind::Map => "}",
             _ => ")",
         });
+    }
+}
+
+/// Whether an item that isn't shown begins with this step, or a byte string that holds one.
+fn is_unseen(view: View<'_>, step: Step) -> bool {
+    let item = view.behind(step.at);
+    match step.event {
+        Event::End(_) => false,
+        Event::Body(Header::Bytes(_), size) => item
+            .front(step.len.saturating_add(size))
+            .holds_hidden(),
+        _ => item.is_hidden(),
     }
 }
 

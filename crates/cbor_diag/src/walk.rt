@@ -131,6 +131,8 @@ struct Level {
 pub struct Walk {
     levels: Vec<Level>,
     at: usize,
+    /// Whether a text may be no UTF-8.
+    any_text: bool,
 }
 
 impl Walk {
@@ -139,6 +141,16 @@ impl Walk {
         Walk {
             levels: Vec::new(alloc),
             at: 0,
+            any_text: false,
+        }
+    }
+
+    /// The same over heads alone: a text may be no UTF-8.
+    pub fn over_heads(alloc: Global) -> Walk {
+        Walk {
+            levels: Vec::new(alloc),
+            at: 0,
+            any_text: true,
         }
     }
 
@@ -297,7 +309,10 @@ impl Walk {
         let Some(body) = rest.get(head.len..len) else {
             return Err(Why::Cut);
         };
-        if matches!(head.header, Header::Text(_)) && str::from_utf8(body).is_err() {
+        if !self.any_text
+            && matches!(head.header, Header::Text(_))
+            && str::from_utf8(body).is_err()
+        {
             return Err(Why::NotText);
         }
         Ok(next)

@@ -2,7 +2,7 @@
 //! canonical encoding in it, and where items end.
 use crate::out::{CallError, Out};
 use cbor_diag::{Ends, Fault, NotWritten, Page, Style, first_excess, write_item};
-use cose_notation::{Look, write_message};
+use cose_notation::{Look, mask, write_message};
 
 /// The notation of an item from its heads. Of damaged bytes what is in front of the fault, and the
 /// fault.
@@ -37,8 +37,11 @@ pub fn members(to: &mut Out, bytes: &[u8]) {
         secrets: false,
     };
     let alloc = to.alloc();
+    let Ok(masked) = mask(alloc, look, bytes) else {
+        return to.refuse(CallError::Memory);
+    };
     let mut page = Page::new(to);
-    write_message(alloc, look, bytes, &mut page);
+    write_message(alloc, look, masked.view(), &mut page);
     if page.has_failed() {
         to.refuse(CallError::Memory);
     }

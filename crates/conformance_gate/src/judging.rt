@@ -4,7 +4,7 @@ use crate::words;
 use ciborium_value::Value;
 use cose_gate::{About, Header, HmacJudge, Judge, MessageKind, ProtectedHeader};
 use cose_gate_program::is_good_tag;
-use cose_reasons::{KeyBook, Question, reason};
+use cose_reasons::{KeyBook, Look, Question, reason};
 use coset_keys::CoseKeySet;
 use coset_labels::CborSerializable;
 
@@ -104,6 +104,7 @@ pub fn why(to: &mut Out, row: &mut &str) {
     let question = Question {
         protected: &case.protected,
         unprotected: &case.unprotected,
+        hides_id: false,
         covered: case.covered.as_slice(),
         tag: tag.as_slice(),
         aad_len,
@@ -113,7 +114,7 @@ pub fn why(to: &mut Out, row: &mut &str) {
 
 /// Appends why a judge by these keys says no, `-` for no reason.
 fn add_reason(to: &mut Out, keys: &CoseKeySet, question: Question<'_>) {
-    let Ok(book) = KeyBook::new(to.alloc(), keys) else {
+    let Ok(book) = KeyBook::new(to.alloc(), Look::least(), keys) else {
         to.refuse(NoAnswer::Memory);
         return;
     };

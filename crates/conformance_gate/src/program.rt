@@ -3,9 +3,12 @@ use crate::out::{NoAnswer, Out};
 use crate::words;
 use ciborium_ll::Io;
 use cose_gate::{Mem, Write};
-use cose_gate_command::{KeyFile, NotRun, ask, ended, pass};
-use cose_stream::{end_status, stream, stream_arguments, tell_end};
+use cose_gate_command::{KeyFile, NotRun, Note, ask, ended, pass};
+use cose_stream::{
+    EndTeller, StreamEnd, StreamTerms, end_status, stream, stream_arguments, tell_end,
+};
 use std::alloc::Global;
+use std::cell::RefCell;
 use std::io::{BufWriter, Cursor};
 use test_tools::Held;
 
@@ -164,12 +167,27 @@ fn streamed<W: Write>(to: &mut Out, row: &mut &str, out: &mut W) -> Option<(u8, 
         to.text("usage");
         return None;
     };
+    let alloc = to.alloc();
+    let note = RefCell::new(Note::new(alloc, asked.verbose));
+    let teller = EndTeller {
+        verbose: asked.verbose,
+        file: key_file(asked.keys, keys.as_deref()),
+        aad: asked.aad,
+        note: &note,
+    };
+    let terms = StreamTerms {
+        keys: keys.as_deref(),
+        aad: asked.aad,
+        note: if asked.verbose { Some(&note) } else { None },
+    };
     let mut reader = input.as_slice();
     let mut err = shown_writer(to);
-    let end = stream(to.alloc(), keys.as_deref(), asked.aad, &mut reader, out);
-    let status = end_status(&end);
-    tell_end(end, key_file(asked.keys, keys.as_deref()), &mut err);
-    Some((status, err))
+    let ended = StreamEnd {
+        end: stream(alloc, terms, &mut reader, out),
+        others: 0,
+    };
+    tell_end(alloc, &ended, teller, &mut err);
+    Some((end_status(&ended.end), err))
 }
 
 fn key_file<'a>(name: &'a str, bytes: Option<&'a [u8]>) -> KeyFile<'a> {

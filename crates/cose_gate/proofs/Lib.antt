@@ -11,6 +11,7 @@ pub mod Heads
 pub mod Lengths
 pub mod Meant
 pub mod Pieces
+pub mod Placed
 pub mod Usual
 pub mod Whole
 pub mod Wrong

@@ -54,6 +54,10 @@ pub record Stated (b : List ℕ) (n : ℕ) : Type 0 where
   pub whole : b ≡ tag_title
       ++ (array_title ++ (headers ++ (length_title ++ (payload ++ (last ++ closing count)))))
 
+-- what is before the payload: the tag, and the titles and items of the array up to there
+abbrev pub before_payload : {b : List ℕ} {n : ℕ} → Stated b n → List ℕ
+before_payload s = s.tag_title ++ (s.array_title ++ (s.headers ++ s.length_title))
+
 -- the lengths of n bytes that come in pieces: each piece is as long as the space and the bytes to
 -- come allow, and none is empty
 abbrev pub Cut : ℕ → ℕ → List ℕ → Type 0

@@ -23,7 +23,8 @@ use Rattle.coset_labels.specs.declared.error.CoseError.TheVariants as cose
 use Rattle.cose_gate_core.specs.Questions.{Question, MessageFields, questions, payload_of}
 use Rattle.cose_gate_core.specs.Asked.{first_no, folded_over}
 use Rattle.cose_gate_core.specs.Findings.{Bounds, usual, IsJudged, IsMisshapen}
-use Rattle.cose_gate.specs.Stated.{IsSingleTag, IsSingle, IsFour, Stated, InPieces}
+use Rattle.cose_gate.specs.Stated.{IsSingleTag, IsSingle, IsFour, Stated, InPieces, before_payload}
+use Rattle.cose_gate.specs.declared.checking.Place.{Place}
 use Rattle.cose_gate.specs.declared.fault.StreamFault.{StreamFault}
 use Rattle.cose_gate.specs.declared.fault.StreamFault.TheVariants as fault
 
@@ -58,6 +59,14 @@ pub record CopiedBy {T : Type 0} (limits : Bounds) (decided : T → Question →
   pub payload : List ℕ
   pub is_payload : payload_of checked.message ≡ Some payload
   pub is_copied : IsCopied payload
+
+-- if the bytes to come are known, and begin with a message of a stated length, its payload is in this
+-- place
+abbrev pub IsPlaced : Seen → Place → Type 0
+IsPlaced old place =
+    IfKnown old.left (λ b. (front rest : List ℕ) (size : ℕ) (s : Stated front size)
+    → b ≡ front ++ rest
+    → (place.at ≡ old.offset + length (before_payload s)) × (place.length ≡ size))
 
 -- within the limits if none are chosen
 abbrev pub Checked : {T : Type 0} → (T → Question → T) → (Question → Bool) → List ℕ → T → T → ℕ

@@ -6,7 +6,7 @@ ghost use Rattle.coset_labels.specs.Limits.{nesting_of, layers_of};
 ghost use Rattle.cose_gate_core.specs.Findings.{plain};
 ghost use Rattle.cose_gate.specs.Streaming.{Checked, CheckedBy, CopiedBy, CopiedPart, WritesAll};
 ghost use Rattle.cose_gate.specs.Streaming.{Unstreamed, UnstreamedBy, IsFarFor, NamesWhy, Steady};
-ghost use Rattle.cose_gate.specs.Streaming.{AnswersStated, AnswersStatedBy};
+ghost use Rattle.cose_gate.specs.Streaming.{AnswersStated, AnswersStatedBy, IsPlaced};
 
 use crate::fault::StreamFault;
 use crate::feeding::{feed_front, feed_payload};
@@ -112,6 +112,15 @@ pub fn stream_check_with<R: Read, J: Judge>(
     }
 }
 
+/// Where the payload of a message is in the input.
+#[derive(Debug, Clone, Copy, PartialEq, Eq)]
+pub struct Place {
+    /// The decoder's offset where it begins.
+    pub at: usize,
+    /// Its bytes.
+    pub length: usize,
+}
+
 /// How a message was checked whose payload was written.
 #[derive(Debug, PartialEq, Eq, Drop)]
 pub struct Streamed<E> {
@@ -119,6 +128,8 @@ pub struct Streamed<E> {
     pub yes: bool,
     /// Whether the whole payload was written; if not, the writer's fault.
     pub written: Result<(), E>,
+    /// Where the payload is.
+    pub payload: Place,
 }
 
 /// As `stream_check_with`, and writes each piece of the payload to `out` once it was read. What is
@@ -148,6 +159,9 @@ pub fn stream_check_into<R: Read, J: Judge, W: Write>(
         (length buffer.old) (J.pieces judge.new)
         (WritesAll W.Write out.old out.new s.written) s.yes)) }
 
+    // The payload of that message is in this place.
+    ensures place { IfOk result (λ s. IsPlaced (seen R.Read decoder.old) s.payload) }
+
     // Each fault says what is true of the bytes, and the judge was told nothing.
     ensures err { IfErr result (NamesWhy R.ends
         (UnstreamedBy (plain (nesting_of limits) (layers_of limits))) (length buffer.old)
@@ -168,6 +182,10 @@ pub fn stream_check_into<R: Read, J: Judge, W: Write>(
     let protected = protected_part(alloc, limits, decoder)?;
     let unprotected = unprotected_part(alloc, limits, decoder)?;
     let size = payload_size(decoder, form)?;
+    let payload = Place {
+        at: decoder.offset(),
+        length: size,
+    };
     let about = About::alone(form.kind(), &protected, &unprotected);
     judge.begin(&about)?;
     feed_front(form, received(&protected), aad, size, judge)?;
@@ -175,5 +193,9 @@ pub fn stream_check_into<R: Read, J: Judge, W: Write>(
     let signature = signature_part(alloc, limits, decoder)?;
     close(decoder, count)?;
     let yes = judge.decide(&signature);
-    Ok(Streamed { yes, written })
+    Ok(Streamed {
+        yes,
+        written,
+        payload,
+    })
 }

@@ -15,7 +15,7 @@ mod parts;
 pub mod stream_laws;
 mod titles;
 
-pub use crate::checking::{Streamed, stream_check, stream_check_into, stream_check_with};
+pub use crate::checking::{Place, Streamed, stream_check, stream_check_into, stream_check_with};
 pub use crate::fault::StreamFault;
 pub use crate::gating::{gate, gate_strict, gate_strict_with, gate_with};
 pub use cose_gate_core::{

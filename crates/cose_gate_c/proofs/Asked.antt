@@ -9,7 +9,7 @@ use Rattle.cose_gate_c.proofs.Covered.{covered_ends}
 use Rattle.cose_gate_c.proofs.Streamed.{WasRead, in_front}
 use Rattle.cose_gate_c.specs.Keeping.{Told, gist_of, nothing_told, told_with, WritesRecord, WritesIfKept}
 use Rattle.cose_gate_c.specs.StreamAsking.{TellsFront, IsUnasked, StreamAsks, ran}
-use Rattle.cose_gate_c.specs.declared.placing.Place.{Place}
+use Rattle.cose_gate.specs.declared.checking.Place.{Place}
 use Rattle.cose_gate_c.specs.declared.stream_asking.StreamQuestion.{StreamQuestion}
 
 -- memory ran out after the message was read

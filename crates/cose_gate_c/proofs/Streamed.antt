@@ -19,16 +19,21 @@ use Rattle.cose_gate.specs.ReadError.TheVariants as de
 use Rattle.cose_gate.specs.Reading.{IfKnown}
 use Rattle.cose_gate.specs.SignedStructure.{sign1_covered}
 use Rattle.cose_gate.proofs.Lengths.{stated_whole}
-use Rattle.cose_gate.specs.Stated.{IsSingle, Stated, closing}
-use Rattle.cose_gate.specs.Streaming.{CheckedBy, damaged, untagged, tagged, shape, without_payload, without_length, refused, HoldsNoMemory, Tells, IsLongFor, IsBegun, UnstreamedBy, Answered}
+use Rattle.cose_gate.specs.Stated.{IsSingle, Stated, closing, before_payload}
+use Rattle.cose_gate.specs.Streaming.{CheckedBy, CopiedBy, damaged, untagged, tagged, shape, without_payload, without_length, refused, HoldsNoMemory, Tells, IsLongFor, IsBegun, UnstreamedBy, Answered}
 use Rattle.cose_gate.specs.Tree.{Tree}
 use Rattle.cose_gate.specs.declared.fault.StreamFault.{StreamFault}
 use Rattle.cose_gate.specs.declared.fault.StreamFault.TheVariants as fault
 use Rattle.cose_gate_c.proofs.Carried.{carried, paid}
-use Rattle.cose_gate_c.specs.Places.{IsPlace, Lies, before_payload}
+use Rattle.cose_gate_c.specs.Places.{Lies}
 use Rattle.cose_gate_c.specs.Streaming.{ChecksFront, HasQuestion, IsInFront, IsStopped, IsFoundIfStated, IsUnchecked, StreamChecks, ran, fault_number}
-use Rattle.cose_gate_c.specs.declared.placing.Place.{Place}
+use Rattle.cose_gate.specs.declared.checking.Place.{Place}
 use Rattle.cose_gate_c.specs.declared.streaming.StreamAnswer.{StreamAnswer}
+
+-- where the payload is, if a message of a stated length is in front
+abbrev pub IsPlace : ℕ → List ℕ → Place → Type 0
+IsPlace at b place =
+    (front rest : List ℕ) (size : ℕ) (s : Stated front size) → b ≡ front ++ rest → (place.at ≡ at + length (before_payload s)) × (place.length ≡ size)
 
 one_answer : (b : Bool) → is_none (if b then option_map (λ (n : ℕ). n + 1) None else Some 0) ≡ b
 one_answer true = refl
@@ -80,7 +85,7 @@ module _ {T : Type 0} (limits : Bounds) (allows : Question → Bool) (decided : 
       )
 
   taken_of : (left' : Option (List ℕ)) (at : ℕ) (place : Place) → Moves (Some input) left' 0 at (CheckedBy limits decided allows aad told told' room lengths yes)
-      → IsPlace input place → WasRead limits allows decided aad input told told' yes at place
+      → IsPlace 0 input place → WasRead limits allows decided aad input told told' yes at place
   unfolding asked_of
   taken_of None at place m is = absurd m.taken
   taken_of (Some rest) at place m is =
@@ -99,7 +104,7 @@ module _ {T : Type 0} (limits : Bounds) (allows : Question → Bool) (decided : 
           before = before_payload s;
           after = s.last ++ closing s.count;
           whole = s.whole ∙ simp append_assoc;
-          at_is = p.0;
+          at_is = p.0 ∙ zero-add (length (before_payload s));
           size_is = p.1 ∙ sym s.is_payload;
         };
         size_is = m.grown ∙ zero-add (length m.bytes);
@@ -128,19 +133,22 @@ module _ {T : Type 0} (limits : Bounds) (allows : Question → Bool) (decided : 
 module _ {T : Type 0} (limits : Bounds) (allows allows' : Question → Bool) (decided : T → Question → T) (aad input : List ℕ) (told told' : T) (room : ℕ)
     (lengths : List ℕ) (left left' : Option (List ℕ)) (at at' : ℕ) (yes : Bool)
     (law : (t : Tree) (m : MessageFields) (aad : List ℕ) → IsJudged limits t m → all_questions m aad ≡ Some (questions m aad)) where
-  here : left ≡ Some input → at ≡ 0 → allows' ≡ allows → Moves left left' at at' (CheckedBy limits decided allows' aad told told' room lengths yes)
+  here : {C : List ℕ → Type 0} → left ≡ Some input → at ≡ 0 → allows' ≡ allows → Moves left left' at at' (CopiedBy limits decided allows' aad told told' room lengths C yes)
       → Moves (Some input) left' 0 at' (CheckedBy limits decided allows aad told told' room lengths yes)
   here is start same m =
-      let known = subst (λ (l : Option (List ℕ)). Moves l left' at at' (CheckedBy limits decided allows' aad told told' room lengths yes)) is m in
+      let checked : Moves left left' at at' (CheckedBy limits decided allows' aad told told' room lengths yes) = record { bytes = m.bytes; has = m.has.checked; taken = m.taken; grown = m.grown } in
+      let known = subst (λ (l : Option (List ℕ)). Moves l left' at at' (CheckedBy limits decided allows' aad told told' room lengths yes)) is checked in
       let from = subst (λ (n : ℕ). Moves (Some input) left' n at' (CheckedBy limits decided allows' aad told told' room lengths yes)) start known in
       subst (λ (f : Question → Bool). Moves (Some input) left' 0 at' (CheckedBy limits decided f aad told told' room lengths yes)) same from
 
-  pub takes : left ≡ Some input → at ≡ 0 → allows' ≡ allows → Moves left left' at at' (CheckedBy limits decided allows' aad told told' room lengths yes)
-      → (place : Place) → IsPlace input place → WasRead limits allows decided aad input told told' yes at' place
-  takes is start same m place there = taken_of limits allows decided aad input told told' room lengths yes law left' at' place (here is start same m) there
+  pub takes : {C : List ℕ → Type 0} → left ≡ Some input → at ≡ 0 → allows' ≡ allows → Moves left left' at at' (CopiedBy limits decided allows' aad told told' room lengths C yes)
+      → (place : Place) → IfKnown left (λ b. IsPlace at b place) → WasRead limits allows decided aad input told told' yes at' place
+  takes is start same m place there =
+      let known = subst (λ (l : Option (List ℕ)). IfKnown l (λ b. IsPlace at b place)) is there in
+      taken_of limits allows decided aad input told told' room lengths yes law left' at' place (here is start same m) (subst (λ (n : ℕ). IsPlace n input place) start known)
 
   -- memory ran out after the message was read
-  pub begins : left ≡ Some input → at ≡ 0 → allows' ≡ allows → Moves left left' at at' (CheckedBy limits decided allows' aad told told' room lengths yes) → IsBegun input
+  pub begins : {C : List ℕ → Type 0} → left ≡ Some input → at ≡ 0 → allows' ≡ allows → Moves left left' at at' (CopiedBy limits decided allows' aad told told' room lengths C yes) → IsBegun input
   begins is start same m = begun limits allows decided aad input told told' room lengths yes law left' at' (here is start same m)
 
 -- how the call says where all is
@@ -169,13 +177,6 @@ module _ {T : Type 0} (limits : Bounds) (allows : Question → Bool) (decided : 
     });
     stated = λ t front rest message size e reads judged single stated. inl fault;
   }
-
--- memory ran out after the check
-pub forgets : (limits : Bounds) (allows : Question → Bool) (aad input : List ℕ) (a : StreamAnswer) → IsBegun input → IsUnchecked 4 7 a → ChecksFront limits allows aad input a
-forgets limits allows aad input a b u = record {
-  ended = inr (record { why = refused; shown = b; said = u });
-  stated = λ t front rest message size e reads judged single stated. inr u.fault_is;
-}
 
 -- a fault says why the message was not read; an input in memory is never too long
 module _ (limits : Bounds) (input : List ℕ) (fits : length input < 2 ^ 63) (IsSaid : ℕ → Type 0) (number : ℕ) where

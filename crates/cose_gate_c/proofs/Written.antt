@@ -9,7 +9,7 @@ use Rattle.cose_gate_records.specs.Records.{front_of, record_of}
 use Rattle.cose_gate_c.specs.Keeping.{Gist, gist_of, AreSizes, WritesRecord}
 use Rattle.cose_gate_records.proofs.Frames.{length-eight, length-framed, length-key}
 use Rattle.cose_gate_c.specs.declared.question_writing.Sizes.{Sizes}
-use Rattle.cose_gate_c.specs.declared.placing.Place.{Place}
+use Rattle.cose_gate.specs.declared.checking.Place.{Place}
 use Rattle.cose_gate_c.specs.declared.stream_asking.StreamQuestion.{StreamQuestion}
 
 -- a record that covers nothing and has no signature: its length, and the front of its key

@@ -6,7 +6,7 @@ use Rattle.cose_gate_c.specs.StreamAsking.{IsUnasked, HoldsRecord}
 use Rattle.cose_gate_c.specs.declared.keeping.Keeper.{Keeper}
 use Rattle.cose_gate_c.specs.declared.keeping.Signature.{Signature}
 use Rattle.cose_gate_c.specs.declared.keeping.Signature.TheVariants.{Awaited, Kept, Lost}
-use Rattle.cose_gate_c.specs.declared.placing.Place.{Place}
+use Rattle.cose_gate.specs.declared.checking.Place.{Place}
 use Rattle.cose_gate_c.specs.declared.stream_asking.StreamQuestion.{StreamQuestion}
 use Rattle.cose_gate_c.specs.declared.question_writing.Sizes.{Sizes}
 

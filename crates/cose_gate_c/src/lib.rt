@@ -9,7 +9,6 @@ ghost use Rattle.cose_gate_c.specs.Streaming.{StreamChecks};
 ghost use Rattle.cose_gate_records.specs.Calls.{Asks, Checks, Passes, buffers};
 
 mod keeping;
-mod placing;
 mod question_writing;
 mod stream_asking;
 mod streaming;

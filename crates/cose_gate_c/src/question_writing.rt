@@ -5,8 +5,8 @@ ghost use Rattle.cose_gate.specs.RecordFraming.{framed};
 ghost use Rattle.cose_gate_c.specs.Keeping.{AreSizes, WritesIfKept, told_of_keeper};
 
 use crate::keeping::{Keeper, Signature};
-use crate::placing::Place;
 use crate::stream_asking::{StreamQuestion, told, unasked};
+use cose_gate::Place;
 use std::alloc::{AllocError, Global};
 
 /// How long the parts of a record are: its key, what is in front of the payload, and all but the

@@ -5,11 +5,10 @@ ghost use Rattle.cose_gate.specs.Findings.{plain};
 ghost use Rattle.cose_gate_c.specs.StreamAsking.{TellsFront, IsUnasked, StreamAsks};
 
 use crate::keeping::Keeper;
-use crate::placing::{Place, payload_place};
 use crate::question_writing::{Sizes, write_question};
 use crate::streaming::fault_number;
 use cose_gate::laws::judged_can_be_written;
-use cose_gate::{Decoder, Limits, stream_check_with};
+use cose_gate::{Decoder, Limits, Nowhere, Place, stream_check_into};
 use std::alloc::Global;
 
 /// What the streaming call for a question returns. With the statuses 2 and 4 the lengths and places
@@ -86,11 +85,16 @@ fn ask_front(
     let mut judge = Keeper::new(alloc, question.len());
     let mut decoder = Decoder::from(input);
     let mut buffer = [0; 4096];
-    match stream_check_with(alloc, limits, &mut decoder, &mut buffer, aad, &mut judge) {
-        Ok(_yes) => match payload_place(alloc, limits.nesting(), input) {
-            Ok(payload) => write_question(alloc, &judge, payload, decoder.offset(), question),
-            Err(_) => unasked(4, 7),
-        },
+    match stream_check_into(
+        alloc,
+        limits,
+        &mut decoder,
+        &mut buffer,
+        aad,
+        &mut judge,
+        &mut Nowhere,
+    ) {
+        Ok(read) => write_question(alloc, &judge, read.payload, decoder.offset(), question),
         Err(fault) => unasked(4, fault_number(&fault)),
     }
 }

@@ -7,11 +7,10 @@ ghost use Rattle.cose_gate.specs.KeyView.{key_set_view};
 ghost use Rattle.cose_gate_c.specs.Streaming as spec;
 ghost use Rattle.cose_gate_c.specs.Streaming.{ChecksFront, IsUnchecked, StreamChecks};
 
-use crate::placing::{Place, payload_place};
 use cose_gate::laws::judged_can_be_written;
 use cose_gate::{
-    CborSerializable, CoseError, CoseKeySet, Decoder, End, HmacJudge, Limits, StreamFault,
-    stream_check_with,
+    CborSerializable, CoseError, CoseKeySet, Decoder, End, HmacJudge, Limits, Nowhere, Place,
+    StreamFault, stream_check_into,
 };
 use std::alloc::Global;
 
@@ -79,7 +78,8 @@ pub(crate) fn fault_number(fault: &StreamFault<End>) -> u32
     }
 }
 
-/// Checks the message in front with these keys, 4 KiB of its payload at a time.
+/// Checks the message in front with these keys, 4 KiB of its payload at a time. Its headers are read
+/// once: where the payload is said to be is where it was read.
 fn check_front(
     alloc: Global,
     limits: Limits,
@@ -94,11 +94,16 @@ fn check_front(
     let mut judge = HmacJudge::new(keys);
     let mut decoder = Decoder::from(input);
     let mut buffer = [0; 4096];
-    match stream_check_with(alloc, limits, &mut decoder, &mut buffer, aad, &mut judge) {
-        Ok(yes) => match payload_place(alloc, limits.nesting(), input) {
-            Ok(payload) => checked(yes, decoder.offset(), payload),
-            Err(_) => unchecked(4, 7),
-        },
+    match stream_check_into(
+        alloc,
+        limits,
+        &mut decoder,
+        &mut buffer,
+        aad,
+        &mut judge,
+        &mut Nowhere,
+    ) {
+        Ok(streamed) => checked(streamed.yes, decoder.offset(), streamed.payload),
         Err(fault) => unchecked(4, fault_number(&fault)),
     }
 }

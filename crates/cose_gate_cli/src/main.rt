@@ -3,7 +3,7 @@
 //! output. AADHEX is the external data in hex. With `--strict` only messages in canonical encoding
 //! pass; with `--verbose` standard error says more, with `--quiet` nothing of what passed.
 //!
-//! `cose-gate --stream [--payload FILE] KEYS [AADHEX]`: checks that standard input is one such
+//! `cose-gate --stream [--payload FILE] [--verbose] KEYS [AADHEX]`: checks that standard input is one such
 //! message, as it comes, and puts its payload into FILE if its tag is good.
 #![tactic(auto)]
 
@@ -12,6 +12,7 @@ ghost use Rattle.cose_gate_command.specs.Arguments as spec;
 ghost use Rattle.cose_gate_command.specs.Ends.{EndsBy};
 ghost use Rattle.cose_gate_program.specs.Program.{devices_of};
 
+mod folder;
 mod streaming;
 
 use crate::streaming::start_stream;
@@ -34,7 +35,7 @@ const VERSION: &str = "cose-gate 0.8\n";
 /// What `-h` and `--help` print. The script `cose-gate` prints the same.
 const HELP: &str = "\
 usage: cose-gate [--strict] [--verbose] [--quiet] KEYS [AADHEX] < INPUT > PASSED
-       cose-gate --stream [--payload FILE] KEYS [AADHEX] < MESSAGE
+       cose-gate --stream [--payload FILE] [--verbose] KEYS [AADHEX] < MESSAGE
 Reads a CBOR sequence, and writes the messages that pass, each in canonical encoding.
 What passes: a COSE_Mac0 in its tag 17, whose MAC is HMAC with SHA-256 under its first matching key.
 KEYS: a file with a COSE_KeySet. AADHEX: the external data in hex, empty if it is left out.
@@ -43,8 +44,8 @@ On standard error: a line for each item, and at the end how many passed and were
 With --verbose indented lines after these say why an item is refused, or the run stops.
 With --quiet an item that passed has no line.
 With --stream, which comes first, the input is one such message, of any size: it is checked as
-it comes, and nothing is written to standard output. FILE gets its payload once its MAC is found
-to be good.
+it comes, and nothing is written to standard output. FILE, which is a regular file or not there
+yet, gets its payload once its MAC is found to be good.
 Status 0: no item was refused. 1: some were. 2: wrong arguments, or AADHEX is not hex.
 3: KEYS can't be read, or isn't a key set. 4: the input isn't CBOR, input or output failed, or
 it is out of memory.

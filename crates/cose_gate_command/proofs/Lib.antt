@@ -5,7 +5,7 @@ pub mod HexDigits
 pub mod KeyFields
 pub mod Keys
 pub mod NotRuns
-pub mod Reasons
+pub mod KeyReasons
 pub mod RecordLine
 pub mod RunLines
 pub mod Sending

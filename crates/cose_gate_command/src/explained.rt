@@ -1,8 +1,17 @@
 //! A judge whose last no has its reason beside it.
+ghost use Rattle.std.specs.Prelude.{List};
+ghost use Rattle.coset_keys.specs.Fields.{KeyFields};
+ghost use Rattle.cose_gate_program.specs.Judge.{says_yes};
+ghost use Rattle.cose_gate_program.specs.Keeps.{keys_of};
+ghost use Rattle.cose_gate_program.specs.contracts.judge.HmacJudgeJudge.TheImpl as hmac;
+
 use cose_gate_core::{About, Judge, MessageKind};
-use cose_gate_program::CoseKeySet;
+use cose_gate_program::{CoseKeySet, HmacJudge};
 use cose_hmac::HmacSha256;
-use cose_reasons::{KeyBook, OTHER_KIND, Page, Secret, secret_or_reason, write_wrong_tag};
+use cose_reasons::{
+    Headers, KeyBook, Look, OTHER_KIND, Page, Secret, has_short_secret, secret_or_reason,
+    write_wrong_tag,
+};
 use std::alloc::{AllocError, Global};
 use std::cell::RefCell;
 
@@ -11,7 +20,7 @@ const LINE: usize = 256;
 
 /// Why the judge said no to the question at hand, and what is said before that.
 #[derive(Drop)]
-pub(crate) struct Note {
+pub struct Note {
     /// The reason; empty if none is known.
     pub(crate) reason: String,
     /// Whether the question is about one signature of several.
@@ -19,11 +28,16 @@ pub(crate) struct Note {
     /// The front of a line. It has memory from the beginning, so that a run tells that it is out of
     /// memory.
     pub(crate) line: String,
+    /// What is said once of the keys; empty if nothing is.
+    pub(crate) keys: &'static str,
 }
+
+/// Of keys one of which can be guessed.
+const SHORT: &str = "a key of KEYS has a secret of fewer than 16 bytes, which can be guessed";
 
 impl Note {
     /// Of no question yet. It has memory for a line, if it is asked for.
-    pub(crate) fn new(alloc: Global, is_asked: bool) -> Note {
+    pub fn new(alloc: Global, is_asked: bool) -> Note {
         let mut line = String::new(alloc);
         if is_asked {
             let _ = line.reserve(LINE);
@@ -32,6 +46,7 @@ impl Note {
             reason: String::new(alloc),
             is_of_signer: false,
             line,
+            keys: "",
         }
     }
 }
@@ -39,7 +54,7 @@ impl Note {
 /// Why the judge by HMAC with these keys says no to the question at hand. If out of memory, no
 /// reason is known.
 #[derive(Drop)]
-pub(crate) struct Reasons<'a> {
+pub struct Reasons<'a> {
     book: Option<KeyBook<'a>>,
     aad_len: usize,
     /// The tag under the key of the message, of what was fed; none if the reason is known already.
@@ -50,20 +65,26 @@ pub(crate) struct Reasons<'a> {
 }
 
 impl<'a> Reasons<'a> {
-    /// The reasons of a judge by these keys, with so many bytes of external data, into this note.
-    pub(crate) fn new(
+    /// The reasons of a judge by these keys, with so many bytes of external data, into this note;
+    /// none without a note.
+    pub fn noted(
         alloc: Global,
         keys: &'a CoseKeySet,
         aad_len: usize,
-        note: &'a RefCell<Note>,
-    ) -> Reasons<'a> {
-        Reasons {
-            book: KeyBook::new(alloc, keys).ok(),
+        note: Option<&'a RefCell<Note>>,
+    ) -> Option<Reasons<'a>> {
+        let note = note?;
+        if let Ok(mut guard) = note.try_borrow_mut() {
+            let said = &mut *guard;
+            said.keys = if has_short_secret(keys) { SHORT } else { "" };
+        }
+        Some(Reasons {
+            book: KeyBook::new(alloc, Look::least(), keys).ok(),
             aad_len,
             mac: None,
             is_shared: false,
             note,
-        }
+        })
     }
 
     /// Begins a question, and notes the reason that it gives before its tag is known.
@@ -114,7 +135,12 @@ fn begun<'b>(
 ) -> Option<Secret<'b>> {
     match (about.kind, book) {
         (MessageKind::Mac0, Some(book)) => {
-            secret_or_reason(book, about.protected, about.unprotected, page)
+            let headers = Headers {
+                protected: about.protected,
+                unprotected: about.unprotected,
+                hides_id: false,
+            };
+            secret_or_reason(book, headers, page)
         }
         (MessageKind::Mac0, None) => None,
         _ => {
@@ -124,29 +150,31 @@ fn begun<'b>(
     }
 }
 
-/// A judge, and if they are asked for the reasons of one that gives the same answers.
+/// A judge by HMAC, and if they are asked for the reasons of its answers.
 #[derive(Drop)]
-pub(crate) struct Explained<'a, J> {
-    pub(crate) judge: J,
-    pub(crate) reasons: Option<Reasons<'a>>,
+pub struct Explained<'a> {
+    /// The judge.
+    pub judge: HmacJudge<'a>,
+    /// The reasons, if they are asked for.
+    pub reasons: Option<Reasons<'a>>,
 }
 
-impl<'a, J: Judge> Judge for Explained<'a, J> {
-    ghost Who = { J.Who };
+impl Judge for Explained<'_> {
+    ghost Who = { List KeyFields };
 
-    ghost Told = { J.Told };
+    ghost Told = { Unit {0} };
 
-    ghost who = { λ e. J.who e.judge };
+    ghost who = { λ e. keys_of e.judge };
 
-    ghost told = { λ e. J.told e.judge };
+    ghost told = { λ _. tt };
 
-    ghost holds = { λ e subject bytes. J.holds e.judge subject bytes };
+    ghost holds = { λ e. hmac.ghosts.holds e.judge };
 
-    ghost pieces = { λ e. J.pieces e.judge };
+    ghost pieces = { λ e. hmac.ghosts.pieces e.judge };
 
-    ghost yes = { J.yes };
+    ghost yes = { says_yes };
 
-    ghost decided = { J.decided };
+    ghost decided = { λ told _. told };
 
     fn begin(&mut self, about: &About) -> Result<(), AllocError> {
         if let Some(reasons) = &mut self.reasons {

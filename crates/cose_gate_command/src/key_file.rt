@@ -54,7 +54,7 @@ fn write_line<W: Write>(text: &str, out: &mut W)
 }
 
 /// Says more of a run that doesn't begin with these arguments. Out of memory it may say less.
-pub(crate) fn say_not_begun<W: Write>(
+pub fn say_not_begun<W: Write>(
     alloc: Global,
     why: NotBegun,
     file: KeyFile<'_>,

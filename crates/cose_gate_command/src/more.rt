@@ -32,8 +32,52 @@ pub(crate) fn say_more<W: Write>(notice: &Notice, place: Place, note: &RefCell<N
     put_more(notice, place, note);
     write_more(note.line.as_str(), note.reason.as_str(), out);
     write_more(remedy(notice), "", out);
+    write_more(note.keys, "", out);
+    note.keys = "";
     flush(out);
 }
+
+/// Says of the keys what is said once, and flushes the writer.
+pub fn say_keys<W: Write>(note: &RefCell<Note>, out: &mut W)
+    ensures { Adds W.Write true out.old out.new }
+{
+    let keys = match note.try_borrow() {
+        Ok(note) => note.keys,
+        Err(_) => "",
+    };
+    write_more(keys, "", out);
+    flush(out);
+}
+
+/// Says why the judge has said no to one message.
+pub fn say_reason<W: Write>(note: &RefCell<Note>, out: &mut W)
+    ensures { Adds W.Write true out.old out.new }
+{
+    match note.try_borrow() {
+        Ok(note) if !note.reason.is_empty() => write_more(note.reason.as_str(), "", out),
+        _ => write_more(NO, "", out),
+    }
+}
+
+/// Says what stopped a run over one message.
+pub fn say_fault<W: Write>(fault: &GateFault<InputFault>, note: &RefCell<Note>, out: &mut W)
+    ensures { Adds W.Write true out.old out.new }
+{
+    let Ok(mut guard) = note.try_borrow_mut() else {
+        return;
+    };
+    let note = &mut *guard;
+    note.line.clear();
+    let first = Place {
+        number: 1,
+        offset: 0,
+    };
+    let _ = put_stop(fault, first, &mut note.line);
+    write_more(note.line.as_str(), "", out);
+}
+
+/// Of a no without a reason.
+const NO: &str = "the judge says no";
 
 /// Puts what is said more of a notice into a note. A reason of the judge stays if it said no.
 fn put_more(notice: &Notice, place: Place, note: &mut Note) {
@@ -58,7 +102,7 @@ fn put_judged(index: usize, note: &mut Note) -> fmt::Result {
         write!(note.line, "signature {number}: ")?;
     }
     if note.reason.is_empty() {
-        return note.line.write_str("the judge says no");
+        return note.line.write_str(NO);
     }
     Ok(())
 }
@@ -147,7 +191,7 @@ fn remedy(notice: &Notice) -> &'static str {
 
 /// Writes a line that begins with two blanks and holds these two texts, if they aren't empty. Of
 /// one that isn't of one line nothing is written.
-pub(crate) fn write_more<W: Write>(first: &str, then: &str, out: &mut W)
+pub fn write_more<W: Write>(first: &str, then: &str, out: &mut W)
     ensures { Adds W.Write true out.old out.new }
 {
     if first.is_empty() && then.is_empty() {
@@ -170,7 +214,7 @@ fn is_line(text: &str) -> bool
 }
 
 /// Writes a line that begins with two blanks.
-pub(crate) fn write_indented<W: Write>(first: &str, then: &str, out: &mut W)
+pub fn write_indented<W: Write>(first: &str, then: &str, out: &mut W)
     ensures { Wrote W.Write out.old out.new (indented (first.now ++ then.now)) }
 {
     let _ = out.write_all(b"  ");

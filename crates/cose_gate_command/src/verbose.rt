@@ -16,23 +16,9 @@ use crate::line_writer::{LineWriter, Manner, Sources};
 use crate::options::{RunTerms, run_terms};
 use ciborium_ll::log::Log;
 use ciborium_ll::{Read, Write};
-use cose_gate_program::{CoseKeySet, HmacJudge, NotBegun, Notice, begin, run_told, write_notice};
+use cose_gate_program::{HmacJudge, NotBegun, Notice, begin, run_told, write_notice};
 use std::alloc::Global;
 use std::cell::{Cell, RefCell};
-
-/// The reasons of a no under these keys, if they are asked for.
-fn asked_reasons<'a>(
-    is_asked: bool,
-    alloc: Global,
-    keys: &'a CoseKeySet,
-    aad_len: usize,
-    note: &'a RefCell<Note>,
-) -> Option<Reasons<'a>> {
-    if !is_asked {
-        return None;
-    }
-    Some(Reasons::new(alloc, keys, aad_len, note))
-}
 
 /// Ends a run that doesn't begin, and returns its status.
 fn end_unbegun<E: Write>(
@@ -96,7 +82,8 @@ pub(crate) fn run_asked<'f, 'd, R: Read, W: Write, E: Write>(
             let judge = HmacJudge::prepared(alloc, &beginning.keys);
             let RunTerms { terms, aad } = run_terms(asked.strict, beginning.aad.as_slice());
             let mut teller = LineWriter::new(err, manner, &sources, &was, &mut told);
-            let reasons = asked_reasons(asked.verbose, alloc, &beginning.keys, aad.len(), &note);
+            let noted = if asked.verbose { Some(&note) } else { None };
+            let reasons = Reasons::noted(alloc, &beginning.keys, aad.len(), noted);
             let mut judge = Explained { judge, reasons };
             let mut input = Counted {
                 reader: input,

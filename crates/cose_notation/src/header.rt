@@ -1,13 +1,11 @@
 //! Headers and claims, with their registered names.
-use crate::key_labels::{KeyPart, key_label};
 use crate::line::{begin_line, write_len, write_not_shown, write_shown, write_string};
 use crate::look::Look;
 use crate::names::{algorithm, claim, content_format, parameter};
 use crate::parts::{Members, entries, integer, is_bytes, is_one_item, joined};
 use crate::payload::{plain_text, show_text};
-use crate::secrets::{KeyMap, is_open, key_in};
 use crate::time::claim_time;
-use cbor_diag::{NotWritten, Page};
+use cbor_diag::{Page, View};
 use std::alloc::Global;
 use std::fmt;
 
@@ -20,81 +18,36 @@ pub enum Labels {
     Claims,
 }
 
-/// A map of headers or claims, and the key that it may be.
-#[derive(Debug, Clone, Copy, PartialEq, Eq)]
-pub struct Scope {
-    /// What its labels are.
-    pub labels: Labels,
-    /// The key that it may be, unless secrets are shown.
-    key: Option<KeyMap>,
-}
-
-impl Scope {
-    /// The scope of this map.
-    ///
-    /// # Errors
-    /// `Memory`.
-    pub fn of(alloc: Global, look: Look, labels: Labels, map: &[u8]) -> Result<Scope, NotWritten> {
-        let key = if look.secrets {
-            None
-        } else {
-            key_in(alloc, map)?
-        };
-        Ok(Scope { labels, key })
-    }
-
-    /// Whether a value isn't shown. Label 1 of a header is the algorithm, so there it is only what
-    /// the registry has as a secret of the type of keys with that number.
-    ///
-    /// # Errors
-    /// `Memory`.
-    pub fn hides(
-        self,
-        alloc: Global,
-        label: Option<i64>,
-        value: &[u8],
-    ) -> Result<bool, NotWritten> {
-        let Some(key) = self.key else {
-            return Ok(false);
-        };
-        let known = key_label(key.kty, label);
-        match self.labels {
-            Labels::Headers => Ok(known.name.is_some() && known.part == KeyPart::Secret),
-            Labels::Claims => Ok(!is_open(alloc, known.part, value)?),
-        }
-    }
-}
-
 /// Shows a protected header: a byte string around a map, or an empty one (RFC 9052, section 3).
 pub fn show_protected<P: fmt::Write>(
     alloc: Global,
     look: Look,
-    item: &[u8],
+    item: View<'_>,
     level: usize,
     page: &mut Page<'_, P>,
 ) {
-    if !is_bytes(item) {
+    if !is_bytes(item.bytes()) {
         begin_line(level, page);
         page.write_str("protected, not bytes: ");
-        write_shown(alloc, look, look.lines(), item, level, page);
+        write_shown(alloc, look.lines(), item, level, page);
         page.write_str("\n");
         return;
     }
     if let Some(bytes) = page.kept(joined(alloc, item)) {
-        show_protected_bytes(alloc, look, &bytes, level, page);
+        show_protected_bytes(alloc, look, bytes.view(), level, page);
     }
 }
 
 fn show_protected_bytes<P: fmt::Write>(
     alloc: Global,
     look: Look,
-    bytes: &[u8],
+    bytes: View<'_>,
     level: usize,
     page: &mut Page<'_, P>,
 ) {
     begin_line(level, page);
     page.write_str("protected, ");
-    if page.kept(is_one_item(alloc, bytes)).unwrap_or(false) {
+    if page.kept(is_one_item(alloc, bytes)).unwrap_or(false) && !bytes.is_hidden() {
         write_len(bytes.len(), page);
         show_entries(alloc, look, bytes, level, Labels::Headers, page);
         return;
@@ -102,7 +55,7 @@ fn show_protected_bytes<P: fmt::Write>(
     if !bytes.is_empty() {
         page.write_str("not one item, ");
     }
-    write_string(alloc, look, bytes, page);
+    write_string(look, bytes, page);
 }
 
 /// Shows an unprotected header.
@@ -110,7 +63,7 @@ pub fn show_map<P: fmt::Write>(
     alloc: Global,
     look: Look,
     name: &str,
-    item: &[u8],
+    item: View<'_>,
     level: usize,
     page: &mut Page<'_, P>,
 ) {
@@ -123,22 +76,19 @@ pub fn show_map<P: fmt::Write>(
 pub fn show_entries<P: fmt::Write>(
     alloc: Global,
     look: Look,
-    item: &[u8],
+    item: View<'_>,
     level: usize,
     labels: Labels,
     page: &mut Page<'_, P>,
 ) {
     let Some(mut parts) = entries(alloc, item) else {
         page.write_str(", not a map: ");
-        write_shown(alloc, look, look.lines(), item, level, page);
+        write_shown(alloc, look.lines(), item, level, page);
         page.write_str("\n");
         return;
     };
-    let Some(scope) = page.kept(Scope::of(alloc, look, labels, item)) else {
-        return;
-    };
     for number in 0..u64::MAX {
-        let shown = show_entry(alloc, look, &mut parts, level, scope, number == 0, page);
+        let shown = show_entry(alloc, look, &mut parts, level, labels, number == 0, page);
         if !shown {
             if number == 0 {
                 page.write_str(", empty\n");
@@ -154,7 +104,7 @@ fn show_entry<P: fmt::Write>(
     look: Look,
     parts: &mut Members<'_>,
     level: usize,
-    scope: Scope,
+    labels: Labels,
     first: bool,
     page: &mut Page<'_, P>,
 ) -> bool {
@@ -169,16 +119,16 @@ fn show_entry<P: fmt::Write>(
     }
     let inner = level.saturating_add(1);
     begin_line(inner, page);
-    write_shown(alloc, look, look.line(), label, 0, page);
-    let number = integer(label);
-    if let Some(name) = name_of(scope.labels, number) {
+    write_shown(alloc, look.line(), label, 0, page);
+    let number = integer(label.bytes());
+    if let Some(name) = name_of(labels, number) {
         write!(page, " {name}");
     }
     page.write_str(": ");
-    if page.kept(scope.hides(alloc, number, value)).unwrap_or(true) {
+    if value.is_hidden() {
         write_not_shown(alloc, value, page);
     } else {
-        show_value(alloc, look, scope.labels, number, value, inner, page);
+        show_value(alloc, look, labels, number, value, inner, page);
     }
     page.write_str("\n");
     true
@@ -199,19 +149,19 @@ fn show_value<P: fmt::Write>(
     look: Look,
     labels: Labels,
     label: Option<i64>,
-    value: &[u8],
+    value: View<'_>,
     level: usize,
     page: &mut Page<'_, P>,
 ) {
-    match value_name(labels, label, integer(value)) {
+    match value_name(labels, label, integer(value.bytes())) {
         Some(name) => {
             write!(page, "{name} (");
-            write_shown(alloc, look, look.line(), value, level, page);
+            write_shown(alloc, look.line(), value, level, page);
             page.write_str(")");
         }
-        None => write_shown(alloc, look, look.lines(), value, level, page),
+        None => write_shown(alloc, look.lines(), value, level, page),
     }
-    if let Some(time) = claim_time(labels, label, value) {
+    if let Some(time) = claim_time(labels, label, value.bytes()) {
         write!(page, " ({time})");
     }
     if labels == Labels::Headers && label == Some(4) {
@@ -223,16 +173,19 @@ fn show_value<P: fmt::Write>(
 pub(crate) fn show_id_text<P: fmt::Write>(
     alloc: Global,
     look: Look,
-    id: &[u8],
+    id: View<'_>,
     page: &mut Page<'_, P>,
 ) {
-    if !is_bytes(id) {
+    if !is_bytes(id.bytes()) {
         return;
     }
     let Some(bytes) = page.kept(joined(alloc, id)) else {
         return;
     };
-    if let Some(text) = plain_text(&bytes) {
+    if bytes.view().holds_hidden() {
+        return;
+    }
+    if let Some(text) = plain_text(bytes.view().bytes()) {
         page.write_str(" (");
         show_text(look, text, page);
         page.write_str(")");

@@ -1,10 +1,8 @@
 //! Members of JSON objects (RFC 8259). They are written as they come, so that nothing is held
 //! beside the item.
 use crate::line::write_shown;
-use crate::look::Look;
 use crate::parts::{integer, is_bytes, joined};
-use crate::secrets::holds_secret;
-use cbor_diag::{Page, Style, write_hex};
+use cbor_diag::{Page, Style, View, write_hex};
 use std::alloc::Global;
 use std::fmt;
 
@@ -56,34 +54,32 @@ pub fn write_word<P: fmt::Write>(name: &str, word: &str, page: &mut Page<'_, P>)
 
 /// Writes bytes in hex between quotes, or `...` if they may hold secrets of keys and those aren't
 /// shown.
-pub fn write_hex_text<P: fmt::Write>(
-    alloc: Global,
-    look: Look,
-    bytes: &[u8],
-    page: &mut Page<'_, P>,
-) {
+pub fn write_hex_text<P: fmt::Write>(bytes: View<'_>, page: &mut Page<'_, P>) {
     page.write_str("\"");
-    if !look.secrets && page.kept(holds_secret(alloc, bytes)).unwrap_or(true) {
+    if bytes.holds_hidden() {
         page.write_str("...");
     } else {
-        write_hex(bytes, page);
+        write_hex(bytes.bytes(), page);
     }
     page.write_str("\"");
 }
 
 /// Writes a member with the length of a byte string that isn't shown; nothing of another item.
-pub fn write_length<P: fmt::Write>(alloc: Global, item: &[u8], page: &mut Page<'_, P>) {
-    if is_bytes(item) {
+pub fn write_length<P: fmt::Write>(alloc: Global, item: View<'_>, page: &mut Page<'_, P>) {
+    if is_bytes(item.bytes()) {
         if let Some(bytes) = page.kept(joined(alloc, item)) {
-            write!(page, ",\"length\":{}", bytes.len());
+            write!(page, ",\"length\":{}", bytes.view().len());
         }
     }
 }
 
 /// Writes a member with the number that an integer is, from -(2^53 - 1) to 2^53 - 1; nothing of
 /// another item.
-pub fn write_number<P: fmt::Write>(item: &[u8], page: &mut Page<'_, P>) {
-    if let Some(number) = integer(item) {
+pub fn write_number<P: fmt::Write>(item: View<'_>, page: &mut Page<'_, P>) {
+    if item.is_hidden() {
+        return;
+    }
+    if let Some(number) = integer(item.bytes()) {
         if (-GREATEST..=GREATEST).contains(&number) {
             write!(page, ",\"number\":{number}");
         }
@@ -91,16 +87,11 @@ pub fn write_number<P: fmt::Write>(item: &[u8], page: &mut Page<'_, P>) {
 }
 
 /// Writes the notation of an item between quotes, as `write_shown` does on one line.
-pub fn write_notation<P: fmt::Write>(
-    alloc: Global,
-    look: Look,
-    item: &[u8],
-    page: &mut Page<'_, P>,
-) {
+pub fn write_notation<P: fmt::Write>(alloc: Global, item: View<'_>, page: &mut Page<'_, P>) {
     page.write_str("\"");
     let mut quoted = Quoted { page };
     let mut inside = Page::new(&mut quoted);
-    write_shown(alloc, look, Style::line(), item, 0, &mut inside);
+    write_shown(alloc, Style::line(), item, 0, &mut inside);
     let end = inside.end();
     if page.kept(end).is_some() {
         page.write_str("\"");

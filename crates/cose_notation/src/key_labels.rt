@@ -1,6 +1,7 @@
 //! Labels of keys: their names, and whether their values may be shown.
 use crate::names::key_parameter;
 use crate::parts::{header_of, integer};
+use cbor_diag::head_of;
 use ciborium_ll::Header;
 use cose_iana::{
     AkpKeyParameter, Ec2KeyParameter, EnumI64, HssLmsKeyParameter, KeyType, OkpKeyParameter,
@@ -50,7 +51,10 @@ impl Label {
         match (integer(item), header_of(item)) {
             (Some(number), _) => Label::Number(number),
             (None, Some(Header::Negative(_))) => Label::Number(i64::MIN),
-            (None, Some(Header::Tag(2..=3))) => Label::Bignum,
+            (None, Some(Header::Tag(2..=3))) => match small_bignum(item) {
+                Some(number) => Label::Number(number),
+                None => Label::Bignum,
+            },
             _ => Label::Other,
         }
     }
@@ -62,14 +66,38 @@ impl Label {
             _ => None,
         }
     }
+}
 
-    /// Whether it may be below 0.
-    pub fn may_be_below_zero(self) -> bool {
-        match self {
-            Label::Number(number) => number < 0,
-            Label::Bignum => true,
-            Label::Other => false,
-        }
+/// The number that a bignum is, if it has a stated length and of its bytes no more than the last 7
+/// aren't 0.
+fn small_bignum(item: &[u8]) -> Option<i64> {
+    let tag = head_of(item).ok()?;
+    let content = item.get(tag.len..)?;
+    let string = head_of(content).ok()?;
+    let Header::Bytes(Some(size)) = string.header else {
+        return None;
+    };
+    let number = small_number(content.get(string.len..)?.get(..size)?)?;
+    match tag.header {
+        Header::Tag(2) => Some(number),
+        Header::Tag(3) => (-1i64).checked_sub(number),
+        _ => None,
+    }
+}
+
+/// A number of 7 bytes is at most this.
+const MOST: i64 = 0x00ff_ffff_ffff_ffff;
+
+/// The number that these bytes are, if no more than the last 7 aren't 0.
+fn small_number(bytes: &[u8]) -> Option<i64> {
+    let mut number = 0i64;
+    for byte in bytes {
+        number = number.checked_mul(256)?.checked_add(i64::from(*byte))?;
+    }
+    if number >> 56 == 0 {
+        Some(number)
+    } else {
+        None
     }
 }
 

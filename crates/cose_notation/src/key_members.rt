@@ -4,8 +4,8 @@ use crate::key_labels::{KeyLabel, KeyPart, key_label};
 use crate::keys::{Keys, name_of, operation_name};
 use crate::look::Look;
 use crate::parts::{Members, entries, integer, is_label, items};
-use crate::secrets::{is_open, type_in};
-use cbor_diag::Page;
+use crate::signs::type_in;
+use cbor_diag::{Page, View};
 use cose_iana::KeyType;
 use std::alloc::Global;
 use std::fmt;
@@ -16,7 +16,7 @@ pub fn write_keys<P: fmt::Write>(
     alloc: Global,
     look: Look,
     keys: Keys,
-    item: &[u8],
+    item: View<'_>,
     page: &mut Page<'_, P>,
 ) {
     write_word("kind", keys.name(), page);
@@ -51,12 +51,12 @@ fn write_list<P: fmt::Write>(
 }
 
 /// A key as the list of its entries; null in place of another item.
-fn write_key<P: fmt::Write>(alloc: Global, look: Look, item: &[u8], page: &mut Page<'_, P>) {
+fn write_key<P: fmt::Write>(alloc: Global, look: Look, item: View<'_>, page: &mut Page<'_, P>) {
     let Some(mut parts) = entries(alloc, item) else {
         page.write_str("null");
         return;
     };
-    let Some(kty) = page.kept(type_in(alloc, item)) else {
+    let Some(kty) = page.kept(type_in(alloc, item.bytes())) else {
         return;
     };
     let mut mark = "[";
@@ -78,14 +78,14 @@ fn write_entry<P: fmt::Write>(
     alloc: Global,
     look: Look,
     kty: Option<KeyType>,
-    label: &[u8],
-    value: &[u8],
+    label: View<'_>,
+    value: View<'_>,
     page: &mut Page<'_, P>,
 ) {
-    let known = key_label(kty, integer(label));
+    let known = key_label(kty, integer(label.bytes()));
     page.write_str("{\"label\":");
-    if look.secrets || is_label(label) {
-        write_notation(alloc, look, label, page);
+    if !label.is_hidden() {
+        write_notation(alloc, label, page);
     } else {
         page.write_str("null");
     }
@@ -100,21 +100,17 @@ fn write_value<P: fmt::Write>(
     alloc: Global,
     look: Look,
     known: KeyLabel,
-    value: &[u8],
+    value: View<'_>,
     page: &mut Page<'_, P>,
 ) {
-    if !look.secrets
-        && !page
-            .kept(is_open(alloc, known.part, value))
-            .unwrap_or(false)
-    {
+    if value.is_hidden() {
         write_length(alloc, value, page);
         return;
     }
     write_name("value", page);
-    write_notation(alloc, look, value, page);
+    write_notation(alloc, value, page);
     write_number(value, page);
-    if let Some(name) = name_of(known.part, value) {
+    if let Some(name) = name_of(known.part, value.bytes()) {
         write_word("value_name", name, page);
     }
     if known.part == KeyPart::Operations {
@@ -123,7 +119,7 @@ fn write_value<P: fmt::Write>(
 }
 
 /// The names of operations, null in place of one that has none.
-fn write_operations<P: fmt::Write>(alloc: Global, value: &[u8], page: &mut Page<'_, P>) {
+fn write_operations<P: fmt::Write>(alloc: Global, value: View<'_>, page: &mut Page<'_, P>) {
     let Some(mut list) = items(alloc, value) else {
         return;
     };
@@ -134,7 +130,7 @@ fn write_operations<P: fmt::Write>(alloc: Global, value: &[u8], page: &mut Page<
             break;
         };
         page.write_str(mark);
-        match operation_name(one) {
+        match operation_name(one.bytes()) {
             Some(name) => write!(page, "\"{name}\""),
             None => page.write_str("null"),
         }

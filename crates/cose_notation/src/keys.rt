@@ -6,8 +6,8 @@ use crate::line::{begin_line, write_not_shown, write_shown};
 use crate::look::Look;
 use crate::names::{algorithm, curve, key_operation, key_type};
 use crate::parts::{Members, entries, integer, is_label, items};
-use crate::secrets::{is_key_set, is_open, key_in, type_in};
-use cbor_diag::{NotWritten, Page};
+use crate::signs::{is_key_set, key_in, type_in};
+use cbor_diag::{NotWritten, Page, View};
 use cose_iana::KeyType;
 use std::alloc::Global;
 use std::fmt;
@@ -50,7 +50,7 @@ pub fn show_keys<P: fmt::Write>(
     alloc: Global,
     look: Look,
     keys: Keys,
-    item: &[u8],
+    item: View<'_>,
     page: &mut Page<'_, P>,
 ) {
     match keys {
@@ -88,18 +88,18 @@ fn show_list<P: fmt::Write>(
 fn show_key<P: fmt::Write>(
     alloc: Global,
     look: Look,
-    item: &[u8],
+    item: View<'_>,
     level: usize,
     page: &mut Page<'_, P>,
 ) {
     let Some(mut parts) = entries(alloc, item) else {
         begin_line(level, page);
         page.write_str("not a map: ");
-        show_maybe(alloc, look, false, item, level, page);
+        show_maybe(alloc, look, item, level, page);
         page.write_str("\n");
         return;
     };
-    let Some(kty) = page.kept(type_in(alloc, item)) else {
+    let Some(kty) = page.kept(type_in(alloc, item.bytes())) else {
         return;
     };
     for _ in 0..u64::MAX {
@@ -119,30 +119,27 @@ fn show_entry<P: fmt::Write>(
     alloc: Global,
     look: Look,
     kty: Option<KeyType>,
-    label: &[u8],
-    value: &[u8],
+    label: View<'_>,
+    value: View<'_>,
     level: usize,
     page: &mut Page<'_, P>,
 ) {
-    let known = key_label(kty, integer(label));
-    show_maybe(alloc, look, is_label(label), label, level, page);
+    let known = key_label(kty, integer(label.bytes()));
+    show_maybe(alloc, look, label, level, page);
     if let Some(name) = known.name {
         write!(page, " {name}");
     }
     page.write_str(": ");
-    let shown = look.secrets
-        || page
-            .kept(is_open(alloc, known.part, value))
-            .unwrap_or(false);
+    let shown = !value.is_hidden();
     if shown && known.part == KeyPart::Operations {
         show_operations(alloc, look, value, level, page);
         return;
     }
-    match name_of(known.part, value) {
-        Some(name) => show_named(alloc, look, name, value, page),
-        None => show_maybe(alloc, look, shown, value, level, page),
+    match name_of(known.part, value.bytes()) {
+        Some(name) if shown => show_named(alloc, look, name, value, page),
+        _ => show_maybe(alloc, look, value, level, page),
     }
-    if shown && integer(label) == Some(2) {
+    if shown && integer(label.bytes()) == Some(2) {
         show_id_text(alloc, look, value, page);
     }
 }
@@ -165,11 +162,11 @@ fn show_named<P: fmt::Write>(
     alloc: Global,
     look: Look,
     name: &'static str,
-    value: &[u8],
+    value: View<'_>,
     page: &mut Page<'_, P>,
 ) {
     write!(page, "{name} (");
-    write_shown(alloc, look, look.line(), value, 0, page);
+    write_shown(alloc, look.line(), value, 0, page);
     page.write_str(")");
 }
 
@@ -177,12 +174,12 @@ fn show_named<P: fmt::Write>(
 fn show_operations<P: fmt::Write>(
     alloc: Global,
     look: Look,
-    value: &[u8],
+    value: View<'_>,
     level: usize,
     page: &mut Page<'_, P>,
 ) {
     let Some(mut list) = items(alloc, value) else {
-        show_maybe(alloc, look, true, value, level, page);
+        show_maybe(alloc, look, value, level, page);
         return;
     };
     let mut mark = "";
@@ -192,9 +189,9 @@ fn show_operations<P: fmt::Write>(
         };
         page.write_str(mark);
         mark = ", ";
-        match operation_name(one) {
+        match operation_name(one.bytes()) {
             Some(name) => show_named(alloc, look, name, one, page),
-            None => show_maybe(alloc, look, true, one, level, page),
+            None => show_maybe(alloc, look, one, level, page),
         }
     }
     if mark.is_empty() {
@@ -211,13 +208,12 @@ pub fn operation_name(value: &[u8]) -> Option<&'static str> {
 fn show_maybe<P: fmt::Write>(
     alloc: Global,
     look: Look,
-    shown: bool,
-    item: &[u8],
+    item: View<'_>,
     level: usize,
     page: &mut Page<'_, P>,
 ) {
-    if shown || look.secrets {
-        write_shown(alloc, look, look.lines(), item, level, page);
+    if !item.is_hidden() {
+        write_shown(alloc, look.lines(), item, level, page);
     } else {
         write_not_shown(alloc, item, page);
     }

@@ -2,6 +2,7 @@
 //! registered names.
 #![tactic(auto)]
 
+mod blanks;
 mod header;
 mod json;
 mod key_labels;
@@ -14,9 +15,12 @@ mod message;
 mod names;
 mod parts;
 mod payload;
-mod secrets;
+mod role;
+mod search;
+mod signs;
 mod time;
 
+pub use crate::blanks::{Masked, mask};
 pub use crate::json::{write_hex_text, write_name, write_notation, write_word};
 pub use crate::key_members::write_keys;
 pub use crate::keys::{Keys, keys_in, show_keys};
@@ -25,5 +29,5 @@ pub use crate::look::Look;
 pub use crate::members::write_message;
 pub use crate::message::{Form, Part, is_message, lacks_tag, message_of, show_message};
 pub use crate::names::{algorithm, key_operation, key_type, parameter};
-pub use crate::parts::{Members, entries, integer, is_bytes, items, joined};
-pub use crate::secrets::may_hold_secrets;
+pub use crate::parts::{Content, Members, entries, integer, is_bytes, items, joined};
+pub use cbor_diag::View;

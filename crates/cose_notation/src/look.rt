@@ -11,6 +11,14 @@ pub struct Look {
 }
 
 impl Look {
+    /// Long strings are cut, and secrets aren't shown.
+    pub fn least() -> Look {
+        Look {
+            full: false,
+            secrets: false,
+        }
+    }
+
     /// Notation on several lines.
     pub fn lines(self) -> Style {
         if self.full {

@@ -1,5 +1,5 @@
 //! A message as members of a JSON object.
-use crate::header::{Labels, Scope, name_of as label_name, value_name};
+use crate::header::{Labels, name_of as label_name, value_name};
 use crate::json::{
     write_hex_text, write_length, write_name, write_notation, write_number, write_word,
 };
@@ -8,7 +8,7 @@ use crate::message::{Form, Part, message_of, name_of};
 use crate::parts::{Members, entries, integer, is_bytes, is_null, is_one_item, items, joined};
 use crate::payload::has_claims;
 use crate::time::claim_time;
-use cbor_diag::Page;
+use cbor_diag::{Page, View};
 use std::alloc::Global;
 use std::fmt;
 
@@ -17,7 +17,7 @@ use std::fmt;
 pub fn write_message<P: fmt::Write>(
     alloc: Global,
     look: Look,
-    item: &[u8],
+    item: View<'_>,
     page: &mut Page<'_, P>,
 ) {
     let Some((form, tag, content)) = message_of(item) else {
@@ -67,22 +67,28 @@ fn write_headers<P: fmt::Write>(
 
 /// A protected header: the entries of the map that it holds, none if it is empty, and else the
 /// notation of what is there.
-fn write_protected<P: fmt::Write>(alloc: Global, look: Look, item: &[u8], page: &mut Page<'_, P>) {
-    if !is_bytes(item) {
-        write_notation(alloc, look, item, page);
+fn write_protected<P: fmt::Write>(
+    alloc: Global,
+    look: Look,
+    item: View<'_>,
+    page: &mut Page<'_, P>,
+) {
+    if !is_bytes(item.bytes()) {
+        write_notation(alloc, item, page);
         return;
     }
     let Some(bytes) = page.kept(joined(alloc, item)) else {
         return;
     };
+    let bytes = bytes.view();
     if bytes.is_empty() {
         page.write_str("[]");
         return;
     }
-    if page.kept(is_one_item(alloc, &bytes)).unwrap_or(false) {
-        write_entries(alloc, look, &bytes, Labels::Headers, page);
+    if page.kept(is_one_item(alloc, bytes)).unwrap_or(false) && !bytes.is_hidden() {
+        write_entries(alloc, look, bytes, Labels::Headers, page);
     } else {
-        write_notation(alloc, look, item, page);
+        write_notation(alloc, item, page);
     }
 }
 
@@ -90,15 +96,12 @@ fn write_protected<P: fmt::Write>(alloc: Global, look: Look, item: &[u8], page: 
 fn write_entries<P: fmt::Write>(
     alloc: Global,
     look: Look,
-    item: &[u8],
+    item: View<'_>,
     labels: Labels,
     page: &mut Page<'_, P>,
 ) {
     let Some(mut parts) = entries(alloc, item) else {
-        write_notation(alloc, look, item, page);
-        return;
-    };
-    let Some(scope) = page.kept(Scope::of(alloc, look, labels, item)) else {
+        write_notation(alloc, item, page);
         return;
     };
     let mut mark = "[";
@@ -110,7 +113,7 @@ fn write_entries<P: fmt::Write>(
             break;
         };
         page.write_str(mark);
-        write_entry(alloc, look, scope, label, value, page);
+        write_entry(alloc, labels, label, value, page);
         mark = ",";
     }
     page.write_str(if mark == "[" { "[]" } else { "]" });
@@ -119,30 +122,29 @@ fn write_entries<P: fmt::Write>(
 /// An entry, with the names that are registered.
 fn write_entry<P: fmt::Write>(
     alloc: Global,
-    look: Look,
-    scope: Scope,
-    label: &[u8],
-    value: &[u8],
+    labels: Labels,
+    label: View<'_>,
+    value: View<'_>,
     page: &mut Page<'_, P>,
 ) {
     page.write_str("{\"label\":");
-    write_notation(alloc, look, label, page);
-    let number = integer(label);
-    if let Some(name) = label_name(scope.labels, number) {
+    write_notation(alloc, label, page);
+    let number = integer(label.bytes());
+    if let Some(name) = label_name(labels, number) {
         write_word("name", name, page);
     }
-    if page.kept(scope.hides(alloc, number, value)).unwrap_or(true) {
+    if value.is_hidden() {
         write_length(alloc, value, page);
         page.write_str("}");
         return;
     }
     write_name("value", page);
-    write_notation(alloc, look, value, page);
+    write_notation(alloc, value, page);
     write_number(value, page);
-    if let Some(name) = value_name(scope.labels, number, integer(value)) {
+    if let Some(name) = value_name(labels, number, integer(value.bytes())) {
         write_word("value_name", name, page);
     }
-    if let Some(time) = claim_time(scope.labels, number, value) {
+    if let Some(time) = claim_time(labels, number, value.bytes()) {
         write!(page, ",\"time\":\"{time}\"");
     }
     page.write_str("}");
@@ -152,7 +154,7 @@ fn write_part<P: fmt::Write>(
     alloc: Global,
     look: Look,
     part: Part,
-    item: &[u8],
+    item: View<'_>,
     page: &mut Page<'_, P>,
 ) {
     match part {
@@ -164,32 +166,33 @@ fn write_part<P: fmt::Write>(
 }
 
 /// A byte string in hex, null if a part is detached, and the notation of another item.
-fn write_bytes<P: fmt::Write>(alloc: Global, look: Look, item: &[u8], page: &mut Page<'_, P>) {
-    if is_null(item) {
+fn write_bytes<P: fmt::Write>(alloc: Global, look: Look, item: View<'_>, page: &mut Page<'_, P>) {
+    if is_null(item.bytes()) {
         page.write_str("null");
         return;
     }
-    if !is_bytes(item) {
-        write_notation(alloc, look, item, page);
+    if !is_bytes(item.bytes()) {
+        write_notation(alloc, item, page);
         return;
     }
     if let Some(bytes) = page.kept(joined(alloc, item)) {
-        write_hex_text(alloc, look, &bytes, page);
+        write_hex_text(bytes.view(), page);
     }
 }
 
 /// A payload, and its claims if it is a claims set.
-fn write_payload<P: fmt::Write>(alloc: Global, look: Look, item: &[u8], page: &mut Page<'_, P>) {
+fn write_payload<P: fmt::Write>(alloc: Global, look: Look, item: View<'_>, page: &mut Page<'_, P>) {
     write_bytes(alloc, look, item, page);
-    if !is_bytes(item) {
+    if !is_bytes(item.bytes()) {
         return;
     }
     let Some(bytes) = page.kept(joined(alloc, item)) else {
         return;
     };
-    if page.kept(has_claims(alloc, &bytes)).unwrap_or(false) {
+    let bytes = bytes.view();
+    if !bytes.is_hidden() && page.kept(has_claims(alloc, bytes)).unwrap_or(false) {
         write_name("claims", page);
-        write_entries(alloc, look, &bytes, Labels::Claims, page);
+        write_entries(alloc, look, bytes, Labels::Claims, page);
     }
 }
 
@@ -198,11 +201,11 @@ fn write_list<P: fmt::Write>(
     alloc: Global,
     look: Look,
     last: &str,
-    item: &[u8],
+    item: View<'_>,
     page: &mut Page<'_, P>,
 ) {
     let Some(mut list) = items(alloc, item) else {
-        write_notation(alloc, look, item, page);
+        write_notation(alloc, item, page);
         return;
     };
     let mut mark = "[";
@@ -221,11 +224,11 @@ fn write_one<P: fmt::Write>(
     alloc: Global,
     look: Look,
     last: &str,
-    one: &[u8],
+    one: View<'_>,
     page: &mut Page<'_, P>,
 ) {
     page.write_str("{\"notation\":");
-    write_notation(alloc, look, one, page);
+    write_notation(alloc, one, page);
     if let Some(mut parts) = items(alloc, one) {
         write_headers(alloc, look, &mut parts, page);
         if let Some(item) = parts.next_on(page) {

@@ -4,7 +4,7 @@ use crate::line::{begin_line, write_shown, write_string};
 use crate::look::Look;
 use crate::parts::{Members, entries, header_of, is_bytes, is_null, items, joined, tagged};
 use crate::payload::show_payload;
-use cbor_diag::{NotWritten, Page};
+use cbor_diag::{NotWritten, Page, View};
 use ciborium_ll::Header;
 use std::alloc::Global;
 use std::fmt;
@@ -83,7 +83,7 @@ fn form_of(tag: u64) -> Option<Form> {
 
 /// What kind of message an item is, with its tag, and what the tag is around. The tag of a CWT
 /// around it is ignored.
-pub fn message_of(item: &[u8]) -> Option<(Form, u64, &[u8])> {
+pub fn message_of(item: View<'_>) -> Option<(Form, u64, View<'_>)> {
     let (tag, content) = match tagged(item)? {
         (CWT, content) => tagged(content)?,
         other => other,
@@ -96,7 +96,7 @@ pub fn message_of(item: &[u8]) -> Option<(Form, u64, &[u8])> {
 ///
 /// # Errors
 /// `Memory`.
-pub fn lacks_tag(alloc: Global, item: &[u8]) -> Result<bool, NotWritten> {
+pub fn lacks_tag(alloc: Global, item: View<'_>) -> Result<bool, NotWritten> {
     let Some(mut parts) = items(alloc, item) else {
         return Ok(false);
     };
@@ -107,25 +107,30 @@ pub fn lacks_tag(alloc: Global, item: &[u8]) -> Result<bool, NotWritten> {
     }
     match (protected, unprotected, payload, last) {
         (Some(protected), Some(map), Some(payload), Some(last)) => Ok(
-            is_bytes(protected)
+            is_bytes(protected.bytes())
                 && entries(alloc, map).is_some()
-                && (is_bytes(payload) || is_null(payload))
-                && is_bytes(last),
+                && (is_bytes(payload.bytes()) || is_null(payload.bytes()))
+                && is_bytes(last.bytes()),
         ),
         _ => Ok(false),
     }
 }
 
 /// Whether an item is a message whose parts can be shown.
-pub fn is_message(item: &[u8]) -> bool {
+pub fn is_message(item: View<'_>) -> bool {
     match message_of(item) {
-        Some((_, _, content)) => matches!(header_of(content), Some(Header::Array(_))),
+        Some((_, _, content)) => matches!(header_of(content.bytes()), Some(Header::Array(_))),
         None => false,
     }
 }
 
 /// Shows the parts of the message that an item is, and nothing of another item.
-pub fn show_message<P: fmt::Write>(alloc: Global, look: Look, item: &[u8], page: &mut Page<'_, P>) {
+pub fn show_message<P: fmt::Write>(
+    alloc: Global,
+    look: Look,
+    item: View<'_>,
+    page: &mut Page<'_, P>,
+) {
     let Some((form, tag, content)) = message_of(item) else {
         return;
     };
@@ -212,16 +217,16 @@ fn show_part<P: fmt::Write>(
     alloc: Global,
     look: Look,
     part: Part,
-    item: &[u8],
+    item: View<'_>,
     page: &mut Page<'_, P>,
 ) {
     let name = name_of(part);
     match part {
-        Part::Payload if is_null(item) => page.write_str("    payload: detached\n"),
-        Part::Ciphertext if is_null(item) => page.write_str("    ciphertext: detached\n"),
-        Part::Payload if is_bytes(item) => {
+        Part::Payload if is_null(item.bytes()) => page.write_str("    payload: detached\n"),
+        Part::Ciphertext if is_null(item.bytes()) => page.write_str("    ciphertext: detached\n"),
+        Part::Payload if is_bytes(item.bytes()) => {
             if let Some(payload) = page.kept(joined(alloc, item)) {
-                show_payload(alloc, look, &payload, page);
+                show_payload(alloc, look, payload.view(), page);
             }
         }
         Part::Signatures => show_list(alloc, look, "signature", item, page),
@@ -235,18 +240,18 @@ fn show_bytes<P: fmt::Write>(
     alloc: Global,
     look: Look,
     name: &str,
-    item: &[u8],
+    item: View<'_>,
     level: usize,
     page: &mut Page<'_, P>,
 ) {
-    if !is_bytes(item) {
+    if !is_bytes(item.bytes()) {
         show_other(alloc, look, name, item, level, page);
         return;
     }
     if let Some(bytes) = page.kept(joined(alloc, item)) {
         begin_line(level, page);
         write!(page, "{name}, ");
-        write_string(alloc, look, &bytes, page);
+        write_string(look, bytes.view(), page);
     }
 }
 
@@ -255,13 +260,13 @@ fn show_other<P: fmt::Write>(
     alloc: Global,
     look: Look,
     name: &str,
-    item: &[u8],
+    item: View<'_>,
     level: usize,
     page: &mut Page<'_, P>,
 ) {
     begin_line(level, page);
     write!(page, "{name}: ");
-    write_shown(alloc, look, look.lines(), item, level, page);
+    write_shown(alloc, look.lines(), item, level, page);
     page.write_str("\n");
 }
 
@@ -270,7 +275,7 @@ fn show_list<P: fmt::Write>(
     alloc: Global,
     look: Look,
     name: &str,
-    item: &[u8],
+    item: View<'_>,
     page: &mut Page<'_, P>,
 ) {
     let Some(mut list) = items(alloc, item) else {
@@ -296,7 +301,7 @@ fn show_one<P: fmt::Write>(
     alloc: Global,
     look: Look,
     name: &str,
-    one: &[u8],
+    one: View<'_>,
     page: &mut Page<'_, P>,
 ) {
     let Some(mut parts) = items(alloc, one) else {

@@ -1,5 +1,5 @@
 //! The parts of an item, as slices of its bytes.
-use cbor_diag::{Event, NotWritten, Page, Place, Step, Walk, Why, head_of, item_len};
+use cbor_diag::{Event, NotWritten, Page, Place, Span, Step, View, Walk, Why, head_of, item_len};
 use ciborium_ll::Header;
 use std::alloc::Global;
 use std::fmt;
@@ -8,7 +8,7 @@ use std::fmt;
 #[derive(Drop)]
 pub struct Members<'a> {
     alloc: Global,
-    rest: &'a [u8],
+    rest: View<'a>,
     left: usize,
 }
 
@@ -17,11 +17,11 @@ impl<'a> Members<'a> {
     ///
     /// # Errors
     /// `Memory`.
-    pub fn next(&mut self) -> Result<Option<&'a [u8]>, NotWritten> {
+    pub fn next(&mut self) -> Result<Option<View<'a>>, NotWritten> {
         if self.left == 0 {
             return Ok(None);
         }
-        let len = match item_len(self.alloc, self.rest) {
+        let len = match item_len(self.alloc, self.rest.bytes()) {
             Ok(len) => len,
             Err(fault) if fault.why == Why::Memory => return Err(NotWritten::Memory),
             Err(_) => 0,
@@ -30,20 +30,16 @@ impl<'a> Members<'a> {
             self.left = 0;
             return Ok(None);
         }
-        match self.rest.split_at_checked(len) {
-            Some((front, back)) => {
-                self.left = self.left.saturating_sub(1);
-                self.rest = back;
-                Ok(Some(front))
-            }
-            None => Ok(None),
-        }
+        let front = self.rest.front(len);
+        self.left = self.left.saturating_sub(1);
+        self.rest = self.rest.behind(len);
+        Ok(Some(front))
     }
 }
 
 impl<'a> Members<'a> {
     /// The next one; none once the page has failed, as it does if memory is out.
-    pub fn next_on<P: fmt::Write>(&mut self, page: &mut Page<'_, P>) -> Option<&'a [u8]> {
+    pub fn next_on<P: fmt::Write>(&mut self, page: &mut Page<'_, P>) -> Option<View<'a>> {
         page.kept(self.next()).flatten()
     }
 }
@@ -62,12 +58,12 @@ pub fn header_of(item: &[u8]) -> Option<Header> {
 }
 
 /// The items of an array.
-pub fn items(alloc: Global, item: &[u8]) -> Option<Members<'_>> {
-    match head_of(item) {
+pub fn items(alloc: Global, item: View<'_>) -> Option<Members<'_>> {
+    match head_of(item.bytes()) {
         Ok(head) => match head.header {
             Header::Array(count) => Some(Members {
                 alloc,
-                rest: behind(item, head.len),
+                rest: item.behind(head.len),
                 left: count.unwrap_or(usize::MAX),
             }),
             _ => None,
@@ -77,12 +73,12 @@ pub fn items(alloc: Global, item: &[u8]) -> Option<Members<'_>> {
 }
 
 /// The keys and values of a map, in turns.
-pub fn entries(alloc: Global, item: &[u8]) -> Option<Members<'_>> {
-    match head_of(item) {
+pub fn entries(alloc: Global, item: View<'_>) -> Option<Members<'_>> {
+    match head_of(item.bytes()) {
         Ok(head) => match head.header {
             Header::Map(count) => Some(Members {
                 alloc,
-                rest: behind(item, head.len),
+                rest: item.behind(head.len),
                 left: count.map_or(usize::MAX, |count| count.saturating_mul(2)),
             }),
             _ => None,
@@ -92,10 +88,10 @@ pub fn entries(alloc: Global, item: &[u8]) -> Option<Members<'_>> {
 }
 
 /// What a tag is around.
-pub fn tagged(item: &[u8]) -> Option<(u64, &[u8])> {
-    match head_of(item) {
+pub fn tagged(item: View<'_>) -> Option<(u64, View<'_>)> {
+    match head_of(item.bytes()) {
         Ok(head) => match head.header {
-            Header::Tag(number) => Some((number, behind(item, head.len))),
+            Header::Tag(number) => Some((number, item.behind(head.len))),
             _ => None,
         },
         Err(_) => None,
@@ -170,8 +166,8 @@ fn is_of_labels(step: Step) -> bool {
 ///
 /// # Errors
 /// `Memory`.
-pub fn is_one_item(alloc: Global, bytes: &[u8]) -> Result<bool, NotWritten> {
-    match item_len(alloc, bytes) {
+pub fn is_one_item(alloc: Global, bytes: View<'_>) -> Result<bool, NotWritten> {
+    match item_len(alloc, bytes.bytes()) {
         Ok(len) => Ok(len == bytes.len()),
         Err(fault) if fault.why == Why::Memory => Err(NotWritten::Memory),
         Err(_) => Ok(false),
@@ -183,32 +179,62 @@ pub fn is_null(item: &[u8]) -> bool {
     matches!(header_of(item), Some(Header::Simple(22)))
 }
 
+/// What a string says.
+#[derive(Drop)]
+pub enum Content<'a> {
+    /// A part of the bytes.
+    Part(View<'a>),
+    /// Its pieces joined, in which nothing is hidden, or all.
+    Joined(Vec<u8>, Option<Span>),
+}
+
+impl Content<'_> {
+    /// What may be shown.
+    pub fn view(&self) -> View<'_> {
+        match self {
+            Content::Part(view) => *view,
+            Content::Joined(bytes, None) => View::open(bytes.as_slice()),
+            Content::Joined(bytes, Some(span)) => {
+                View::new(bytes.as_slice(), std::slice::from_ref(span))
+            }
+        }
+    }
+}
+
 /// The bytes of a string, its pieces joined; of a damaged one those of the pieces in front of the
 /// fault.
 ///
 /// # Errors
 /// `Memory`.
-pub fn joined(alloc: Global, item: &[u8]) -> Result<Vec<u8>, NotWritten> {
+pub fn joined(alloc: Global, item: View<'_>) -> Result<Content<'_>, NotWritten> {
+    if let Ok(head) = head_of(item.bytes()) {
+        if let Header::Bytes(Some(size)) = head.header {
+            return Ok(Content::Part(item.behind(head.len).front(size)));
+        }
+    }
     let mut bytes = Vec::new(alloc);
     let mut walk = Walk::new(alloc);
     for _ in 0..u64::MAX {
-        let step = match walk.step(item) {
+        let step = match walk.step(item.bytes()) {
             Ok(step) => step,
             Err(fault) if fault.why == Why::Memory => return Err(NotWritten::Memory),
             Err(_) => break,
         };
         if let Event::Body(_, size) = step.event {
-            let rest = behind(item, step.at.saturating_add(step.len));
-            if bytes
-                .extend_from_slice(rest.get(..size).unwrap_or(rest))
-                .is_err()
-            {
-                return Err(NotWritten::Memory);
-            }
+            let rest = behind(item.bytes(), step.at.saturating_add(step.len));
+            bytes.extend_from_slice(rest.get(..size).unwrap_or(rest))?;
         }
         if walk.is_done() {
             break;
         }
     }
-    Ok(bytes)
+    let hidden = if item.holds_hidden() {
+        Some(Span {
+            at: 0,
+            end: usize::MAX,
+        })
+    } else {
+        None
+    };
+    Ok(Content::Joined(bytes, hidden))
 }

@@ -4,7 +4,7 @@ use crate::line::{write_content, write_len, write_shown};
 use crate::look::Look;
 use crate::names::claim;
 use crate::parts::{entries, integer, is_label, is_one_item};
-use cbor_diag::{CUT, NotWritten, Page, front_text, write_text};
+use cbor_diag::{CUT, NotWritten, Page, View, front_text, write_text};
 use std::alloc::Global;
 use std::fmt;
 
@@ -12,19 +12,23 @@ use std::fmt;
 pub fn show_payload<P: fmt::Write>(
     alloc: Global,
     look: Look,
-    payload: &[u8],
+    payload: View<'_>,
     page: &mut Page<'_, P>,
 ) {
     let len = payload.len();
     page.write_str("    payload, ");
     write_len(len, page);
+    if payload.is_hidden() {
+        page.write_str(", not shown (--secrets shows them)\n");
+        return;
+    }
     let is_item = page.kept(is_one_item(alloc, payload)).unwrap_or(false);
     if is_item && page.kept(is_claims(alloc, payload)).unwrap_or(false) {
         page.write_str(", claims");
         show_entries(alloc, look, payload, 2, Labels::Claims, page);
         return;
     }
-    if let Some(text) = plain_text(payload) {
+    if let Some(text) = open_text(payload) {
         page.write_str(", text: ");
         show_text(look, text, page);
         page.write_str("\n");
@@ -33,9 +37,9 @@ pub fn show_payload<P: fmt::Write>(
     }
     if is_item {
         page.write_str(", CBOR: ");
-        write_shown(alloc, look, look.lines(), payload, 2, page);
+        write_shown(alloc, look.lines(), payload, 2, page);
     } else if len > 0 {
-        write_content(alloc, look, ", hex: ", payload, page);
+        write_content(look, ", hex: ", payload, page);
     }
     page.write_str("\n");
 }
@@ -53,14 +57,23 @@ pub(crate) fn show_text<P: fmt::Write>(look: Look, text: &str, page: &mut Page<'
 fn show_as_item<P: fmt::Write>(
     alloc: Global,
     look: Look,
-    payload: &[u8],
+    payload: View<'_>,
     is_item: bool,
     page: &mut Page<'_, P>,
 ) {
     if is_item && payload.len() > 1 {
         page.write_str("      also CBOR: ");
-        write_shown(alloc, look, look.line(), payload, 0, page);
+        write_shown(alloc, look.line(), payload, 0, page);
         page.write_str("\n");
+    }
+}
+
+/// The text that bytes are, if nothing in them is hidden.
+fn open_text(bytes: View<'_>) -> Option<&str> {
+    if bytes.holds_hidden() {
+        None
+    } else {
+        plain_text(bytes.bytes())
     }
 }
 
@@ -95,7 +108,7 @@ fn is_plain(c: char) -> bool {
 ///
 /// # Errors
 /// `Memory`.
-pub fn has_claims(alloc: Global, payload: &[u8]) -> Result<bool, NotWritten> {
+pub fn has_claims(alloc: Global, payload: View<'_>) -> Result<bool, NotWritten> {
     if is_one_item(alloc, payload)? {
         is_claims(alloc, payload)
     } else {
@@ -105,7 +118,7 @@ pub fn has_claims(alloc: Global, payload: &[u8]) -> Result<bool, NotWritten> {
 
 /// Whether an item is a claims set (RFC 8392): a map whose keys are numbers and texts, a registered
 /// claim among them.
-fn is_claims(alloc: Global, item: &[u8]) -> Result<bool, NotWritten> {
+fn is_claims(alloc: Global, item: View<'_>) -> Result<bool, NotWritten> {
     let Some(mut parts) = entries(alloc, item) else {
         return Ok(false);
     };
@@ -114,10 +127,10 @@ fn is_claims(alloc: Global, item: &[u8]) -> Result<bool, NotWritten> {
         let Some(key) = parts.next()? else {
             break;
         };
-        if !is_label(key) {
+        if !is_label(key.bytes()) {
             return Ok(false);
         }
-        found = found || is_known_claim(integer(key));
+        found = found || is_known_claim(integer(key.bytes()));
         let _ = parts.next()?;
     }
     Ok(found)

@@ -1,7 +1,7 @@
 //! The keys of a judge, by their ids.
 use crate::stop::Stop;
-use cose_gate_program::{CoseKeySet, fits};
-use cose_notation::{Keys, keys_in};
+use cose_gate_program::{CoseKeySet, fits, secret_of};
+use cose_notation::{Keys, Look, keys_in};
 use coset_keys::CoseKey;
 use coset_labels::{CborSerializable, CoseError};
 use std::alloc::Global;
@@ -10,6 +10,9 @@ use std::collections::BTreeMap;
 /// The keys of a set by their ids.
 #[derive(Drop)]
 pub struct KeyBook<'a> {
+    alloc: Global,
+    /// What is shown of an id.
+    look: Look,
     by_id: BTreeMap<&'a [u8], Held<'a>>,
 }
 
@@ -23,16 +26,26 @@ pub struct Held<'a> {
 }
 
 impl<'a> KeyBook<'a> {
-    /// The keys of this set.
+    /// The keys of this set, with their secrets shown in ids, or not.
     ///
     /// # Errors
     /// `Memory`.
-    pub fn new(alloc: Global, keys: &'a CoseKeySet) -> Result<KeyBook<'a>, Stop> {
+    pub fn new(alloc: Global, look: Look, keys: &'a CoseKeySet) -> Result<KeyBook<'a>, Stop> {
         let mut by_id = BTreeMap::new(alloc);
         for key in &keys.0 {
             add_key(&mut by_id, key)?;
         }
-        Ok(KeyBook { by_id })
+        Ok(KeyBook { alloc, look, by_id })
+    }
+
+    /// Where memory comes from.
+    pub fn alloc(&self) -> Global {
+        self.alloc
+    }
+
+    /// What is shown of an id.
+    pub fn look(&self) -> Look {
+        self.look
     }
 
     /// The key that a message with this id is judged by, or would be if it fitted.
@@ -72,6 +85,14 @@ fn held_of<'a>(first: Option<Held<'a>>, key: &'a CoseKey) -> Held<'a> {
             is_shared: true,
         },
     }
+}
+
+/// So many bytes can't be guessed.
+const LONG: usize = 16;
+
+/// Whether a key of the set has a secret that can be guessed, as it is of fewer than 16 bytes.
+pub fn has_short_secret(keys: &CoseKeySet) -> bool {
+    keys.0.iter().any(|key| matches!(secret_of(key), Some(secret) if secret.len() < LONG))
 }
 
 /// The key set that the bytes of a file are.

@@ -6,8 +6,11 @@ mod stop;
 mod texts;
 mod why;
 
-pub use crate::keys::{Held, KeyBook, read_keys};
+pub use crate::keys::{Held, KeyBook, has_short_secret, read_keys};
 pub use crate::stop::Stop;
 pub use crate::texts::{is_of_base64, is_of_hex};
-pub use crate::why::{OTHER_KIND, Question, Secret, reason, secret_or_reason, write_wrong_tag};
+pub use crate::why::{
+    Headers, OTHER_KIND, Question, Secret, reason, secret_or_reason, write_wrong_tag,
+};
 pub use cbor_diag::{Page, write_char};
+pub use cose_notation::Look;

@@ -31,6 +31,8 @@ pub enum Stop {
     Piece,
     /// Out of memory.
     Memory,
+    /// The input is text.
+    Text,
     /// The input is damaged at this offset.
     Damaged(Why, usize),
 }
@@ -85,6 +87,9 @@ impl fmt::Display for Stop {
             ),
             Stop::Piece => f.write_str("a file in DIR can't be made or written"),
             Stop::Memory => f.write_str("out of memory"),
+            Stop::Text => f.write_str(
+                "the input looks like text, and has to be binary (--secrets shows it as items)",
+            ),
             Stop::Damaged(why, offset) => write!(f, "damaged at {offset}: {why}"),
         }
     }

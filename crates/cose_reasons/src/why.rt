@@ -8,7 +8,7 @@ use cose_gate_core::{
 use cose_gate_program::{alg_is_hmac, crit_is_known, fits, message_id, secret_of};
 use cose_hmac::{hmac_sha256, same_tag};
 use cose_iana::EnumI64;
-use cose_notation::{algorithm, key_type, parameter, write_len};
+use cose_notation::{View, algorithm, key_type, mask, parameter, write_len};
 use coset_keys::CoseKey;
 use std::alloc::Global;
 use std::fmt;
@@ -22,6 +22,35 @@ const IDS: usize = 8;
 /// How many bytes a whole tag has.
 const TAG: usize = 32;
 
+/// The headers of a COSE_Mac0.
+#[derive(Clone, Copy)]
+pub struct Headers<'a> {
+    /// Its protected header.
+    pub protected: &'a ProtectedHeader,
+    /// Its unprotected header.
+    pub unprotected: &'a Header,
+    /// Whether its key id isn't shown, whatever it is.
+    pub hides_id: bool,
+}
+
+impl Headers<'_> {
+    /// The key id, and whether it isn't shown.
+    fn id(&self) -> Id<'_> {
+        Id {
+            bytes: message_id(self.protected, self.unprotected),
+            is_hidden: self.hides_id,
+        }
+    }
+}
+
+/// A key id.
+#[derive(Clone, Copy)]
+struct Id<'a> {
+    bytes: &'a [u8],
+    /// Whether it isn't shown, whatever it is.
+    is_hidden: bool,
+}
+
 /// A question about a COSE_Mac0.
 #[derive(Clone, Copy)]
 pub struct Question<'a> {
@@ -29,6 +58,8 @@ pub struct Question<'a> {
     pub protected: &'a ProtectedHeader,
     /// Its unprotected header.
     pub unprotected: &'a Header,
+    /// Whether its key id isn't shown, whatever it is.
+    pub hides_id: bool,
     /// The bytes that its tag covers.
     pub covered: &'a [u8],
     /// Its tag.
@@ -61,7 +92,12 @@ fn write_reason<P: fmt::Write>(
     question: Question<'_>,
     page: &mut Page<'_, P>,
 ) -> bool {
-    match secret_or_reason(book, question.protected, question.unprotected, page) {
+    let headers = Headers {
+        protected: question.protected,
+        unprotected: question.unprotected,
+        hides_id: question.hides_id,
+    };
+    match secret_or_reason(book, headers, page) {
         Some(secret) => {
             let whole = hmac_sha256(secret.bytes, question.covered);
             write_wrong_tag(
@@ -89,10 +125,10 @@ pub struct Secret<'a> {
 /// none if it says no whatever the tag is, and then the first reason is written.
 pub fn secret_or_reason<'b, P: fmt::Write>(
     book: &'b KeyBook<'_>,
-    protected: &ProtectedHeader,
-    unprotected: &Header,
+    headers: Headers<'_>,
     page: &mut Page<'_, P>,
 ) -> Option<Secret<'b>> {
+    let (protected, unprotected) = (headers.protected, headers.unprotected);
     if !alg_is_hmac(protected) {
         write_other_alg(&protected.header.alg, &unprotected.alg, page);
         return None;
@@ -105,17 +141,17 @@ pub fn secret_or_reason<'b, P: fmt::Write>(
         write_crit("unprotected", unprotected, page);
         return None;
     }
-    let id = message_id(protected, unprotected);
-    let Some(held) = book.find(id) else {
+    let id = headers.id();
+    let Some(held) = book.find(id.bytes) else {
         write_no_key(book, id, page);
         return None;
     };
-    if fits(held.key, id) {
+    if fits(held.key, id.bytes) {
         let bytes = secret_of(held.key)?;
         let is_shared = held.is_shared;
         return Some(Secret { bytes, is_shared });
     }
-    write_key_id(id, page);
+    write_key_id(book, id, page);
     write_bar(held.key, page);
     None
 }
@@ -200,12 +236,12 @@ fn is_known(number: i64) -> bool {
 }
 
 /// Writes that no key has the id of the message.
-fn write_no_key<P: fmt::Write>(book: &KeyBook<'_>, id: &[u8], page: &mut Page<'_, P>) {
-    if id.is_empty() {
+fn write_no_key<P: fmt::Write>(book: &KeyBook<'_>, id: Id<'_>, page: &mut Page<'_, P>) {
+    if id.bytes.is_empty() {
         page.write_str("the message has no key id, and no key of the set is without one");
     } else {
         page.write_str("no key of the set has the id ");
-        write_id(id, page);
+        write_id(book, id, page);
     }
     let count = book.ids().len();
     if count == 0 {
@@ -217,8 +253,12 @@ fn write_no_key<P: fmt::Write>(book: &KeyBook<'_>, id: &[u8], page: &mut Page<'_
             break;
         }
         page.write_str(if shown == 0 { "; its ids are " } else { ", " });
-        let other = entry.0;
-        write_id(other, page);
+        let bytes = entry.0;
+        let other = Id {
+            bytes,
+            is_hidden: false,
+        };
+        write_id(book, other, page);
         shown = shown.saturating_add(1);
     }
     if count > IDS {
@@ -227,32 +267,35 @@ fn write_no_key<P: fmt::Write>(book: &KeyBook<'_>, id: &[u8], page: &mut Page<'_
     }
 }
 
-/// A key id, of which no more than 64 bytes are shown.
-fn write_id<P: fmt::Write>(id: &[u8], page: &mut Page<'_, P>) {
-    if id.is_empty() {
+/// A key id, of which no more than 64 bytes are shown, and none if a secret of a key is in it.
+fn write_id<P: fmt::Write>(book: &KeyBook<'_>, id: Id<'_>, page: &mut Page<'_, P>) {
+    let (alloc, look) = (book.alloc(), book.look());
+    if id.bytes.is_empty() {
         page.write_str("(none)");
-        return;
-    }
-    page.write_str("h'");
-    match id.get(..CUT) {
-        Some(front) if id.len() > CUT => {
-            write_hex(front, page);
-            page.write_str("'...");
-        }
-        _ => {
-            write_hex(id, page);
-            page.write_str("'");
-        }
+    } else if id.is_hidden {
+        page.write_str("...");
+    } else if let Some(masked) = page.kept(mask(alloc, look, id.bytes)) {
+        write_shown_id(masked.view(), page);
     }
 }
 
-fn write_key_id<P: fmt::Write>(id: &[u8], page: &mut Page<'_, P>) {
-    if id.is_empty() {
+fn write_shown_id<P: fmt::Write>(id: View<'_>, page: &mut Page<'_, P>) {
+    if id.holds_hidden() {
+        page.write_str("...");
+        return;
+    }
+    page.write_str("h'");
+    write_hex(id.front(CUT).bytes(), page);
+    page.write_str(if id.len() > CUT { "'..." } else { "'" });
+}
+
+fn write_key_id<P: fmt::Write>(book: &KeyBook<'_>, id: Id<'_>, page: &mut Page<'_, P>) {
+    if id.bytes.is_empty() {
         page.write_str("the key without an id ");
         return;
     }
     page.write_str("the key with the id ");
-    write_id(id, page);
+    write_id(book, id, page);
     page.write_str(" ");
 }
 

@@ -1,7 +1,8 @@
 //! What the judge of the program `cose-gate` answers, and why.
 use crate::gated::{Comparing, gate_item};
 use cose_gate_core::{Asked, CoseError, MessageKind, Refusal, Verdict};
-use cose_gate_program::{CoseKeySet, HmacJudge};
+use cose_gate_program::{CoseKeySet, HmacJudge, message_id};
+use cose_notation::{Look, mask};
 use cose_reasons::{KeyBook, OTHER_KIND, Question, Stop, reason};
 use coset_labels::TaggedCborSerializable;
 use coset_maced::CoseMac0;
@@ -24,12 +25,12 @@ pub struct Asking<'a> {
 }
 
 impl<'a> Asking<'a> {
-    /// The judge by these keys.
+    /// The judge by these keys, whose reasons show ids as far as this.
     ///
     /// # Errors
     /// `Memory`.
-    pub fn new(alloc: Global, keys: &'a CoseKeySet) -> Result<Asking<'a>, Stop> {
-        let book = KeyBook::new(alloc, keys)?;
+    pub fn new(alloc: Global, look: Look, keys: &'a CoseKeySet) -> Result<Asking<'a>, Stop> {
+        let book = KeyBook::new(alloc, look, keys)?;
         let judge = HmacJudge::prepared(alloc, keys);
         Ok(Asking { judge, book })
     }
@@ -85,14 +86,14 @@ fn why_not(
     if first.kind != MessageKind::Mac0 {
         return Ok(String::from_str(alloc, OTHER_KIND)?);
     }
-    let message = match CoseMac0::from_tagged_slice(alloc, item) {
-        Ok(message) => message,
-        Err(CoseError::Memory) => return Err(Stop::Memory),
-        Err(_) => return Ok(String::new(alloc)),
+    let shown = shown_id(alloc, book.look(), item)?;
+    let Some(message) = read_message(alloc, item)? else {
+        return Ok(String::new(alloc));
     };
     let question = Question {
         protected: &message.protected,
         unprotected: &message.unprotected,
+        hides_id: id_of(&message) != shown.as_slice(),
         covered: first.structure.as_slice(),
         tag: message.tag.as_slice(),
         aad_len: aad.len(),
@@ -101,4 +102,27 @@ fn why_not(
         Some(why) => Ok(why),
         None => Ok(String::new(alloc)),
     }
+}
+
+/// The message that an item is, if it is one.
+fn read_message(alloc: Global, item: &[u8]) -> Result<Option<CoseMac0>, Stop> {
+    match CoseMac0::from_tagged_slice(alloc, item) {
+        Ok(message) => Ok(Some(message)),
+        Err(CoseError::Memory) => Err(Stop::Memory),
+        Err(_) => Ok(None),
+    }
+}
+
+/// The key id of a message with its secrets blank.
+fn shown_id(alloc: Global, look: Look, item: &[u8]) -> Result<Vec<u8>, Stop> {
+    let masked = mask(alloc, look, item)?;
+    let mut id = Vec::new(alloc);
+    if let Some(message) = read_message(alloc, masked.view().bytes())? {
+        id.extend_from_slice(id_of(&message))?;
+    }
+    Ok(id)
+}
+
+fn id_of(message: &CoseMac0) -> &[u8] {
+    message_id(&message.protected, &message.unprotected)
 }

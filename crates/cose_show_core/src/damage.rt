@@ -2,7 +2,7 @@
 use crate::show::show_looks;
 use crate::source::Source;
 use cbor_diag::{Fault, Page};
-use cose_notation::{Look, begin_line, may_hold_secrets, write_shown};
+use cose_notation::{Look, View, begin_line, write_shown};
 use cose_reasons::Stop;
 use std::alloc::Global;
 use std::{fmt, io};
@@ -10,8 +10,8 @@ use std::{fmt, io};
 /// So many bytes are shown before the fault, and so many from it on.
 pub const AROUND: usize = 16;
 
-/// Shows what could be read of the item at hand, the fault, and the bytes around it. Of an item
-/// that may hold secrets of keys only the fault is shown, unless they are asked for.
+/// Shows the fault of the item at hand, and if secrets are asked for what could be read of it, and
+/// the bytes around the fault.
 ///
 /// # Errors
 /// `Damaged` if nothing else fails.
@@ -23,20 +23,20 @@ pub fn show_damage<R: io::Read + Drop, P: fmt::Write>(
     source: &mut Source<R>,
     page: &mut Page<'_, P>,
 ) -> Result<Option<u64>, Stop> {
-    source.hold(fault.at.saturating_add(AROUND))?;
     let offset = source.offset();
-    let held = source.held();
     writeln!(page, "item {number} at {offset}, damaged");
     let place = offset.saturating_add(fault.at);
     let why = fault.why;
-    if !look.secrets && may_hold_secrets(alloc, held, fault.at, AROUND)? {
+    if !look.secrets {
         page.write_str("  not shown, as it may hold secrets of keys (--secrets shows it)\n");
         writeln!(page, "  fault at {place}: {why}");
-        show_looks(source, page)?;
+        page.end()?;
         return Err(Stop::of_fault(fault, offset));
     }
+    source.hold(fault.at.saturating_add(AROUND))?;
+    let held = source.held();
     begin_line(1, page);
-    write_shown(alloc, look, look.lines(), held, 1, page);
+    write_shown(alloc, look.lines(), View::open(held), 1, page);
     page.write_str("...");
     writeln!(page, "\n  fault at {place}: {why}");
     show_around(held, offset, fault.at, page);

@@ -46,6 +46,11 @@ impl Looks {
         self.len = self.len.saturating_add(1);
     }
 
+    /// Whether it may be text, and there are too few bytes to say.
+    pub fn is_open(self) -> bool {
+        self.len < LEAST && (self.is_pem || self.is_hex || self.is_base64)
+    }
+
     /// What it looks like, if it looks like text.
     pub fn name(self) -> Option<&'static str> {
         if self.len >= PEM.len() && self.is_pem {

@@ -8,8 +8,8 @@ use crate::verdict::{Ruling, Spelling, UNTAGGED, rule};
 use cbor_diag::{Fault, Page};
 use cose_gate_core::{Refusal, Verdict};
 use cose_notation::{
-    Look, keys_in, lacks_tag, may_hold_secrets, write_hex_text, write_keys, write_message,
-    write_name, write_notation, write_word,
+    Look, View, keys_in, lacks_tag, mask, write_hex_text, write_keys, write_message, write_name,
+    write_notation, write_word,
 };
 use cose_reasons::Stop;
 use std::alloc::Global;
@@ -31,8 +31,7 @@ pub fn write_object<P: fmt::Write>(
         page,
         "{{\"number\":{number},\"offset\":{offset},\"length\":{len},\"notation\":"
     );
-    write_content(alloc, request.look, item.bytes, page);
-    page.end()?;
+    write_content(alloc, request.look, item.bytes, page)?;
     let stops = if item.stopped.is_some() {
         write_word("gate", "not reached", page);
         false
@@ -45,16 +44,24 @@ pub fn write_object<P: fmt::Write>(
 }
 
 /// The notation, and the members of keys or of a message.
-fn write_content<P: fmt::Write>(alloc: Global, look: Look, item: &[u8], page: &mut Page<'_, P>) {
-    write_notation(alloc, look, item, page);
-    match page.kept(keys_in(alloc, item)).flatten() {
+fn write_content<P: fmt::Write>(
+    alloc: Global,
+    look: Look,
+    item: &[u8],
+    page: &mut Page<'_, P>,
+) -> Result<(), Stop> {
+    let masked = mask(alloc, look, item)?;
+    let item = masked.view();
+    write_notation(alloc, item, page);
+    match keys_in(alloc, item.bytes())? {
         Some(keys) => write_keys(alloc, look, keys, item, page),
         None => write_message(alloc, look, item, page),
     }
+    page.end()?;
+    Ok(())
 }
 
-/// Writes what is read of a damaged item, and the fault. Of one that may hold secrets of keys only
-/// the fault is written, unless they are asked for.
+/// Writes the fault of a damaged item, and if secrets are asked for what could be read of it.
 ///
 /// # Errors
 /// `Damaged` if nothing else fails.
@@ -66,41 +73,34 @@ pub fn write_damage<R: io::Read + Drop, P: fmt::Write>(
     source: &mut Source<R>,
     page: &mut Page<'_, P>,
 ) -> Result<Option<u64>, Stop> {
-    source.hold(fault.at.saturating_add(AROUND))?;
     let offset = source.offset();
-    let held = source.held();
     write!(page, "{{\"number\":{number},\"offset\":{offset}");
-    if !look.secrets && may_hold_secrets(alloc, held, fault.at, AROUND)? {
+    if !look.secrets {
         let place = offset.saturating_add(fault.at);
         let why = fault.why;
         writeln!(page, ",\"fault\":\"{why}\",\"fault_offset\":{place}}}");
         page.end()?;
         return Err(Stop::of_fault(fault, offset));
     }
+    source.hold(fault.at.saturating_add(AROUND))?;
+    let held = source.held();
     write_name("notation", page);
-    write_notation(alloc, look, held, page);
-    write_fault(alloc, look, fault, offset, held, page);
+    write_notation(alloc, View::open(held), page);
+    write_fault(fault, offset, held, page);
     page.end()?;
     Err(Stop::of_fault(fault, offset))
 }
 
 /// A fault, and the bytes before it and from it on.
-fn write_fault<P: fmt::Write>(
-    alloc: Global,
-    look: Look,
-    fault: Fault,
-    offset: usize,
-    held: &[u8],
-    page: &mut Page<'_, P>,
-) {
+fn write_fault<P: fmt::Write>(fault: Fault, offset: usize, held: &[u8], page: &mut Page<'_, P>) {
     let place = offset.saturating_add(fault.at);
     let why = fault.why;
     let (before, behind) = around(held, fault.at);
     write!(page, ",\"fault\":\"{why}\",\"fault_offset\":{place}");
     write_name("bytes_before", page);
-    write_hex_text(alloc, look, before, page);
+    write_hex_text(View::open(before), page);
     write_name("bytes_from", page);
-    write_hex_text(alloc, look, behind, page);
+    write_hex_text(View::open(behind), page);
     page.write_str("}\n");
 }
 
@@ -142,7 +142,7 @@ fn write_more<P: fmt::Write>(
     match &ruling.verdict {
         Ok(Some(Verdict::Refused(Refusal::Shape(_)))) => write_wrong_part(alloc, item, page),
         Ok(Some(Verdict::Refused(Refusal::NotTagged))) => {
-            if lacks_tag(alloc, item)? {
+            if lacks_tag(alloc, View::open(item))? {
                 write_word("untagged", UNTAGGED, page);
             }
             Ok(())
@@ -221,7 +221,9 @@ fn write_questions<P: fmt::Write>(
         if index > 0 {
             page.write_str(",");
         }
-        write_hex_text(alloc, look, question.structure.as_slice(), page);
+        if let Some(masked) = page.kept(mask(alloc, look, question.structure.as_slice())) {
+            write_hex_text(masked.view(), page);
+        }
     }
     page.write_str("]");
 }

@@ -2,7 +2,9 @@
 use cbor_diag::Page;
 use ciborium_value::Value;
 use cose_gate_core::{CoseError, CoseRecipient, CoseSignature, Header, ProtectedHeader};
-use cose_notation::{Look, Part, entries, is_bytes, items, joined, message_of, write_shown};
+use cose_notation::{
+    Look, Part, View, entries, is_bytes, items, joined, mask, message_of, write_shown,
+};
 use cose_reasons::Stop;
 use coset_labels::{CborSerializable, ValueTryAs, read_to_value};
 use std::alloc::Global;
@@ -26,10 +28,10 @@ pub struct WrongPart {
 /// # Errors
 /// `Memory`.
 pub fn wrong_part(alloc: Global, item: &[u8]) -> Result<Option<WrongPart>, Stop> {
-    let Some((form, _, content)) = message_of(item) else {
+    let Some((form, _, content)) = message_of(View::open(item)) else {
         return Ok(None);
     };
-    let parts = parts_of(alloc, content)?;
+    let parts = parts_of(alloc, content.bytes())?;
     if parts.len() != form.parts.len().saturating_add(2) {
         return Ok(None);
     }
@@ -51,12 +53,12 @@ pub fn wrong_part(alloc: Global, item: &[u8]) -> Result<Option<WrongPart>, Stop>
 /// The items of an array; of another item there are none.
 fn parts_of(alloc: Global, item: &[u8]) -> Result<Vec<&[u8]>, Stop> {
     let mut parts = Vec::new(alloc);
-    let Some(mut list) = items(alloc, item) else {
+    let Some(mut list) = items(alloc, View::open(item)) else {
         return Ok(parts);
     };
     for _ in 0..u64::MAX {
         match list.next()? {
-            Some(part) => parts.push(part)?,
+            Some(part) => parts.push(part.bytes())?,
             None => break,
         }
     }
@@ -133,7 +135,7 @@ fn wrong_in_list(alloc: Global, name: &str, item: &[u8]) -> Result<Option<WrongP
 }
 
 fn is_array(alloc: Global, item: &[u8]) -> bool {
-    items(alloc, item).is_some()
+    items(alloc, View::open(item)).is_some()
 }
 
 fn first_wrong<'a>(
@@ -141,13 +143,14 @@ fn first_wrong<'a>(
     name: &str,
     list: &'a [u8],
 ) -> Result<Option<WrongOne<'a>>, Stop> {
-    let Some(mut list) = items(alloc, list) else {
+    let Some(mut list) = items(alloc, View::open(list)) else {
         return Ok(None);
     };
     for number in 1..u64::MAX {
         let Some(item) = list.next()? else {
             break;
         };
+        let item = item.bytes();
         if let Some(fault) = fault_of(alloc, name, item)? {
             return Ok(Some(WrongOne {
                 number,
@@ -263,8 +266,8 @@ fn wrong_header(alloc: Global, prefix: &str, parts: &[&[u8]]) -> Result<Option<W
             if !is_bytes(protected) {
                 return named(alloc, name.as_str(), fault);
             }
-            let bytes = joined(alloc, protected)?;
-            wrong_label(alloc, name, &bytes, fault)
+            let bytes = joined(alloc, View::open(protected))?;
+            wrong_label(alloc, name, bytes.view().bytes(), fault)
         }
     }
 }
@@ -276,18 +279,23 @@ fn wrong_label(
     map: &[u8],
     fault: CoseError,
 ) -> Result<Option<WrongPart>, Stop> {
-    let Some(mut list) = entries(alloc, map) else {
+    let masked = mask(alloc, Look::least(), map)?;
+    let (list, shown) = (
+        entries(alloc, View::open(map)),
+        entries(alloc, masked.view()),
+    );
+    let (Some(mut list), Some(mut shown)) = (list, shown) else {
         return named(alloc, name.as_str(), fault);
     };
     for _ in 0..u64::MAX {
-        let Some(label) = list.next()? else {
+        let (Some(label), Some(value)) = (list.next()?, list.next()?) else {
             break;
         };
-        let Some(value) = list.next()? else {
+        let (Some(shown), _) = (shown.next()?, shown.next()?) else {
             break;
         };
-        if let Some(fault) = entry_fault(alloc, label, value)? {
-            return labeled(alloc, name, label, fault);
+        if let Some(fault) = entry_fault(alloc, label.bytes(), value.bytes())? {
+            return labeled(alloc, name, shown, fault);
         }
     }
     named(alloc, name.as_str(), fault)
@@ -309,16 +317,12 @@ fn entry_fault(alloc: Global, label: &[u8], value: &[u8]) -> Result<Option<CoseE
 fn labeled(
     alloc: Global,
     mut name: String,
-    label: &[u8],
+    label: View<'_>,
     fault: CoseError,
 ) -> Result<Option<WrongPart>, Stop> {
     name.push_str(", label ")?;
-    let look = Look {
-        full: false,
-        secrets: false,
-    };
     let mut page = Page::new(&mut name);
-    write_shown(alloc, look, look.line(), label, 0, &mut page);
+    write_shown(alloc, Look::least().line(), label, 0, &mut page);
     if page.has_failed() {
         return Err(Stop::Memory);
     }

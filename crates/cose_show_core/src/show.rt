@@ -7,7 +7,7 @@ use crate::verdict::show_verdict;
 use crate::words::Options;
 use cbor_diag::Page;
 use cose_notation::{
-    Look, begin_line, is_message, keys_in, show_keys, show_message, write_len, write_shown,
+    Look, begin_line, is_message, keys_in, mask, show_keys, show_message, write_len, write_shown,
 };
 use cose_reasons::{Stop, read_keys};
 use std::alloc::Global;
@@ -76,7 +76,7 @@ pub fn show_as<R: io::Read + Drop, P: fmt::Write>(
         return show(alloc, request, &mut None, &mut source, &mut page);
     };
     let set = read_keys(alloc, bytes)?;
-    let mut asking = Some(Asking::new(alloc, &set)?);
+    let mut asking = Some(Asking::new(alloc, request.look, &set)?);
     show(alloc, request, &mut asking, &mut source, &mut page)
 }
 
@@ -89,7 +89,11 @@ fn show<R: io::Read + Drop, P: fmt::Write>(
 ) -> Result<Option<u64>, Stop> {
     let mut stopped = None;
     for number in 1..u64::MAX {
-        match source.find()? {
+        let found = source.find()?;
+        if number == 1 && !request.look.secrets && source.is_text()? {
+            return show_text(request.json, source, page);
+        }
+        match found {
             Found::Item(len) => {
                 let item = Item {
                     number,
@@ -116,6 +120,18 @@ fn show<R: io::Read + Drop, P: fmt::Write>(
         }
     }
     Ok(stopped)
+}
+
+/// Shows of an input that looks like text only that.
+fn show_text<R: io::Read + Drop, P: fmt::Write>(
+    json: bool,
+    source: &Source<R>,
+    page: &mut Page<'_, P>,
+) -> Result<Option<u64>, Stop> {
+    if !json {
+        show_looks(source, page)?;
+    }
+    Err(Stop::Text)
 }
 
 /// Shows what an input looks like that isn't binary.
@@ -145,25 +161,31 @@ fn show_item<P: fmt::Write>(
     write!(page, "item {number} at {offset}, ");
     write_len(item.bytes.len(), page);
     page.write_str("\n");
-    show_content(alloc, request.look, item.bytes, page);
-    page.end()?;
+    show_content(alloc, request.look, item.bytes, page)?;
     show_verdict(alloc, request, asking, item, page)
 }
 
 /// Shows what an item holds: keys, the parts of a message, or its notation.
-fn show_content<P: fmt::Write>(alloc: Global, look: Look, item: &[u8], page: &mut Page<'_, P>) {
-    let Some(keys) = page.kept(keys_in(alloc, item)) else {
-        return;
-    };
+fn show_content<P: fmt::Write>(
+    alloc: Global,
+    look: Look,
+    item: &[u8],
+    page: &mut Page<'_, P>,
+) -> Result<(), Stop> {
+    let masked = mask(alloc, look, item)?;
+    let item = masked.view();
+    let keys = keys_in(alloc, item.bytes())?;
     let is_shown_by_parts = keys.is_some() || is_message(item);
     let may_show = look.secrets || keys.is_none();
     if may_show && (look.full || !is_shown_by_parts) {
         begin_line(1, page);
-        write_shown(alloc, look, look.lines(), item, 1, page);
+        write_shown(alloc, look.lines(), item, 1, page);
         page.write_str("\n");
     }
     match keys {
         Some(keys) => show_keys(alloc, look, keys, item, page),
         None => show_message(alloc, look, item, page),
     }
+    page.end()?;
+    Ok(())
 }

@@ -50,6 +50,20 @@ impl<R: io::Read + Drop> Source<R> {
         self.looks.name()
     }
 
+    /// Whether the input looks like text; as long as it may, and has few bytes, more are read.
+    ///
+    /// # Errors
+    /// `Input` and `Memory`.
+    pub fn is_text(&mut self) -> Result<bool, Stop> {
+        for _ in 0..u64::MAX {
+            if self.ended || !self.looks.is_open() {
+                break;
+            }
+            self.read_on()?;
+        }
+        Ok(self.looks.name().is_some())
+    }
+
     /// Where the item at hand begins in the input.
     pub fn offset(&self) -> usize {
         self.offset

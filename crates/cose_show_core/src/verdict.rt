@@ -6,7 +6,7 @@ use crate::show::{Item, Request};
 use cbor_diag::{Event, Excess, Fault, Page, Place, Step, Walk, first_excess};
 use ciborium_ll::Header;
 use cose_gate_core::{Asked, Recorder, Refusal, Verdict};
-use cose_notation::{Look, lacks_tag, write_string};
+use cose_notation::{Look, View, lacks_tag, mask, write_string};
 use cose_reasons::Stop;
 use std::alloc::Global;
 use std::fmt;
@@ -237,7 +237,7 @@ fn say_more<P: fmt::Write>(
     match &ruling.verdict {
         Ok(Some(Verdict::Refused(Refusal::Shape(_)))) => say_wrong_part(alloc, item, page),
         Ok(Some(Verdict::Refused(Refusal::NotTagged))) => {
-            if lacks_tag(alloc, item)? {
+            if lacks_tag(alloc, View::open(item))? {
                 writeln!(page, "    it has the shape of a {UNTAGGED} without its tag");
             }
             Ok(())
@@ -318,6 +318,8 @@ fn show_questions<P: fmt::Write>(
     for (index, question) in asked.iter().enumerate() {
         let number = index.saturating_add(1);
         write!(page, "  question {number} covers ");
-        write_string(alloc, whole, question.structure.as_slice(), page);
+        if let Some(masked) = page.kept(mask(alloc, look, question.structure.as_slice())) {
+            write_string(whole, masked.view(), page);
+        }
     }
 }

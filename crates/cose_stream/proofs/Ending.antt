@@ -8,8 +8,6 @@ use Rattle.ciborium_ll.specs.Reading.{Moves, due}
 use Rattle.ciborium_ll.specs.declared.hdr.Header.{Header}
 use Rattle.ciborium_ll.specs.declared.write.Write.{Ghosts as Writing}
 use Rattle.cose_gate.specs.Findings.{usual, plain}
-use Rattle.cose_gate.specs.HmacJudges.{says_yes}
-use Rattle.cose_gate.specs.KeyFields.{KeyFields}
 use Rattle.cose_gate.specs.ReadError.TheVariants as de
 use Rattle.cose_gate.specs.GateFault.TheVariants as gating
 use Rattle.coset_labels.specs.Limits.{nesting, layers}
@@ -101,6 +99,7 @@ module _ {W F : Type 0} (allows : Question → Bool) (aad : List ℕ) (w : Writi
   reads_no_more l at (stop.Stopped gating.Write) k c none = absurd none
   reads_no_more l at (stop.Stopped gating.Memory) k c none = absurd none
   reads_no_more l at (stop.NotBegun why) k c none = absurd none
+  reads_no_more l at (stop.NoFile why) k c none = absurd none
   reads_no_more l at (stop.Refused why) k c none = absurd none
 
 -- a text that was written, and handed on
@@ -171,13 +170,12 @@ module _ {T : Type 0} (decided : T → Question → T) (told told' : T) (room : 
         within = within l l' o at _ t start;
       }
 
-  -- within the limits if none are chosen, by these keys, from the whole input
-  pub taken : (levels layers' : ℕ) (ks ks' : List KeyFields) (aad aad' : List ℕ) (from l l' : Option (List ℕ)) (o at : ℕ) → levels ≡ nesting → layers' ≡ layers → ks' ≡ ks → aad' ≡ aad → from ≡ l → o ≡ 0
-      → Moves from l' o at (CopiedBy (plain levels layers') decided (says_yes ks') aad' told told' room lengths C answer) → Taken (says_yes ks) aad answer C l l' at
-  taken levels layers' ks ks' aad aad' from l l' o at n y k d f start t =
-      subst (λ (z : Option (List ℕ)). Taken (says_yes ks) aad answer C z l' at) f
-      (message (says_yes ks) aad from l' o at start
-      (subst (λ (z : List KeyFields). Moves from l' o at (CopiedBy usual decided (says_yes z) aad told told' room lengths C answer)) k
-      (subst (λ (z : List ℕ). Moves from l' o at (CopiedBy usual decided (says_yes ks') z told told' room lengths C answer)) d
-      (subst (λ (z : ℕ). Moves from l' o at (CopiedBy (plain nesting z) decided (says_yes ks') aad' told told' room lengths C answer)) y
-      (subst (λ (z : ℕ). Moves from l' o at (CopiedBy (plain z layers') decided (says_yes ks') aad' told told' room lengths C answer)) n t)))))
+  -- within the limits if none are chosen, from the whole input
+  pub taken : (levels layers' : ℕ) (allows : Question → Bool) (aad aad' : List ℕ) (from l l' : Option (List ℕ)) (o at : ℕ) → levels ≡ nesting → layers' ≡ layers → aad' ≡ aad → from ≡ l → o ≡ 0
+      → Moves from l' o at (CopiedBy (plain levels layers') decided allows aad' told told' room lengths C answer) → Taken allows aad answer C l l' at
+  taken levels layers' allows aad aad' from l l' o at n y d f start t =
+      subst (λ (z : Option (List ℕ)). Taken allows aad answer C z l' at) f
+      (message allows aad from l' o at start
+      (subst (λ (z : List ℕ). Moves from l' o at (CopiedBy usual decided allows z told told' room lengths C answer)) d
+      (subst (λ (z : ℕ). Moves from l' o at (CopiedBy (plain nesting z) decided allows aad' told told' room lengths C answer)) y
+      (subst (λ (z : ℕ). Moves from l' o at (CopiedBy (plain z layers') decided allows aad' told told' room lengths C answer)) n t))))

@@ -99,6 +99,7 @@ Ended allows aad left w out out' (Ok u) =
     × IfKnown left (λ b. b ≡ front)
     × (w.failed out' ≡ w.failed out) × Appends (w.written out) (w.written out') payload
 Ended allows aad left w out out' (Err (stop.NotBegun why)) = ⊥
+Ended allows aad left w out out' (Err (stop.NoFile why)) = ⊥
 Ended allows aad left w out out' (Err (stop.Refused why)) =
     IsRefused allows aad left why × CopiedPart usual w out out' left
 Ended allows aad left w out out' (Err (stop.Stopped (gating.Decode e))) =

@@ -7,20 +7,23 @@ use cose_gate_command::read_arguments;
 
 /// The line for other arguments.
 pub const STREAM_USAGE: &str =
-    "usage: cose-gate --stream [--payload FILE] KEYS [AADHEX] < MESSAGE\n";
+    "usage: cose-gate --stream [--payload FILE] [--verbose] KEYS [AADHEX] < MESSAGE\n";
 
 /// What the arguments ask for.
 #[derive(Debug, Clone, Copy, PartialEq, Eq)]
 pub struct StreamArguments<'a> {
     /// The file that the payload goes to; none if it is only checked.
     pub payload: Option<&'a str>,
+    /// More is said of a refusal and of a stop.
+    pub verbose: bool,
     /// The name of the file with the key set.
     pub keys: &'a str,
     /// The external data in hex.
     pub aad: Option<&'a str>,
 }
 
-/// The arguments after `--stream`: `[--payload FILE] KEYS [AADHEX]`; `None` if they are others.
+/// The arguments after `--stream`: `[--payload FILE]`, and then KEYS, AADHEX if it is there, and
+/// `--verbose` anywhere; `None` if they are others.
 pub fn stream_arguments(words: &[String]) -> Option<StreamArguments<'_>>
     ensures { option_map stream_view result ≡ spec.stream_arguments (map string_bytes words.now) }
 {
@@ -32,17 +35,18 @@ pub fn stream_arguments(words: &[String]) -> Option<StreamArguments<'_>>
     with_payload(Some(file.as_str()), rest)
 }
 
-/// With this file, the arguments `KEYS [AADHEX]`.
+/// With this file, the other arguments.
 fn with_payload<'a>(payload: Option<&'a str>, words: &'a [String]) -> Option<StreamArguments<'a>>
     ensures { option_map stream_view result
         ≡ spec.with_payload (option_copied payload.entry) (map string_bytes words.now) }
 {
     let asked = read_arguments(words)?;
-    if asked.strict || asked.verbose || asked.quiet {
+    if asked.strict || asked.quiet {
         return None;
     }
     Some(StreamArguments {
         payload,
+        verbose: asked.verbose,
         keys: asked.keys,
         aad: asked.aad,
     })

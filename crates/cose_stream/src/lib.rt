@@ -3,11 +3,17 @@
 #![tactic(auto)]
 
 mod arguments;
+mod folder;
+mod putting;
 mod stop;
 mod streaming;
 mod telling;
+mod under;
 
 pub use crate::arguments::{STREAM_USAGE, StreamArguments, stream_arguments};
+pub use crate::folder::Folder;
+pub use crate::putting::{StreamEnd, stream_into};
 pub use crate::stop::{StreamRefusal, StreamStop};
-pub use crate::streaming::stream;
-pub use crate::telling::{end_status, tell_end};
+pub use crate::streaming::{StreamTerms, stream};
+pub use crate::telling::{EndTeller, end_status, tell_end};
+pub use crate::under::{NoFile, NotMade, Under};

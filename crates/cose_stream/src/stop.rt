@@ -2,6 +2,7 @@
 ghost use Rattle.std.specs.Prelude.{◌≡◌};
 ghost use Rattle.cose_stream.specs.Streams as spec;
 
+use crate::under::NoFile;
 use ciborium_ll::Read;
 use cose_gate::{GateFault, InputFault, NotBegun, StreamFault, de};
 
@@ -33,6 +34,8 @@ pub enum StreamStop {
     Refused(StreamRefusal),
     /// No readable item begins in the input, it failed, or the output; or it is out of memory.
     Stopped(GateFault<InputFault>),
+    /// There is no file for the payload, and nothing was read.
+    NoFile(NoFile),
 }
 
 impl From<NotBegun> for StreamStop {

@@ -2,18 +2,29 @@
 ghost use Rattle.std.specs.Prelude.{◌≡◌, None, option_copied};
 ghost use Rattle.std.specs.Prelude.{Err, IfErr, IfOk, OnOk};
 ghost use Rattle.ciborium_ll.specs.Views.{left_of, offset_of, reader_of, waiting_of};
-ghost use Rattle.cose_gate.specs.HmacJudges.{says_yes};
-ghost use Rattle.cose_gate.specs.KeyView.{key_set_view};
 ghost use Rattle.cose_stream.specs.Streams.{Ended, IsEnd, IsNoEnd, Streams, failures_after};
 
 use crate::stop::{StreamRefusal, StreamStop, stopped_by};
 use ciborium_ll::{Decoder, Error, Read, Write};
-use cose_gate::{GateFault, HmacJudge, InputFault, Limits, de, stream_check_into};
-use cose_gate_program::{Beginning, begin};
+use cose_gate::{GateFault, HmacJudge, InputFault, Judge, Limits, de, stream_check_into};
+use cose_gate_command::{Explained, Note, Reasons};
+use cose_gate_program::begin;
 use std::alloc::Global;
+use std::cell::RefCell;
 
 /// The payload is read so many bytes at a time.
 const PIECE: usize = 4096;
+
+/// By what a message is checked.
+#[derive(Clone, Copy)]
+pub struct StreamTerms<'a> {
+    /// What KEYS holds, if it can be read.
+    pub keys: Option<&'a [u8]>,
+    /// The external data in hex.
+    pub aad: Option<&'a str>,
+    /// Where the reason of a no is noted, if it is asked for.
+    pub note: Option<&'a RefCell<Note>>,
+}
 
 /// Checks with the keys that KEYS holds and AADHEX as external data that the input is one COSE_Mac0
 /// that states its payload's length, whose MAC is good, as `HmacJudge` says, and writes its payload
@@ -25,37 +36,39 @@ const PIECE: usize = 4096;
 /// the input goes on.
 pub fn stream<R: Read, W: Write>(
     alloc: Global,
-    keys: Option<&[u8]>,
-    aad: Option<&str>,
+    terms: StreamTerms<'_>,
     input: &mut R,
     out: &mut W,
 ) -> Result<(), StreamStop>
-    ensures ran { Streams R.Read W.Write (option_copied keys.entry) (option_copied aad.entry)
-        input.old input.new out.old out.new result }
+    ensures ran { Streams R.Read W.Write (option_copied terms.entry.keys)
+        (option_copied terms.entry.aad) input.old input.new out.old out.new result }
     ensures kept { R.handle input.new ≡ R.handle input.old }
     ensures lent { W.handle out.new ≡ W.handle out.old }
 {
-    let beginning = begin(alloc, keys, aad)?;
-    check(alloc, &beginning, input, out)
+    let beginning = begin(alloc, terms.keys, terms.aad)?;
+    let aad = beginning.aad.as_slice();
+    let judge = HmacJudge::new(&beginning.keys);
+    let reasons = Reasons::noted(alloc, &beginning.keys, aad.len(), terms.note);
+    let mut judge = Explained { judge, reasons };
+    check(alloc, aad, &mut judge, input, out)
 }
 
-/// Checks the message with these keys.
-fn check<R: Read, W: Write>(
+/// Checks the message by this judge.
+fn check<R: Read, J: Judge, W: Write>(
     alloc: Global,
-    beginning: &Beginning,
+    aad: &[u8],
+    judge: &mut J,
     input: &mut R,
     out: &mut W,
 ) -> Result<(), StreamStop>
-    ensures ended { Ended (says_yes (key_set_view beginning.now.keys)) beginning.now.aad.items
-        (R.left input.old) W.Write out.old out.new result }
+    ensures ended { Ended (J.yes (J.who judge.old)) aad.now (R.left input.old) W.Write out.old
+        out.new result }
     ensures failed { R.failed input.new ≡ failures_after result (R.failed input.old) }
     ensures kept { R.handle input.new ≡ R.handle input.old }
     ensures lent { W.handle out.new ≡ W.handle out.old }
 {
-    let mut judge = HmacJudge::new(&beginning.keys);
     let mut decoder = Decoder::from(input);
     let mut buffer = [0; PIECE];
-    let aad = beginning.aad.as_slice();
     let limits = Limits::default();
     let streamed = match stream_check_into(
         alloc,
@@ -63,7 +76,7 @@ fn check<R: Read, W: Write>(
         &mut decoder,
         &mut buffer,
         aad,
-        &mut judge,
+        judge,
         out,
     ) {
         Ok(streamed) => streamed,

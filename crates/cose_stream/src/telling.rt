@@ -1,27 +1,165 @@
-//! The line of an end.
-ghost use Rattle.std.specs.Prelude.{◌≡◌, option_copied};
+//! What is said of an end.
+ghost use Rattle.std.specs.Prelude.{◌≡◌, Err, true, option_copied};
+ghost use Rattle.cose_stream.specs.declared.stop.StreamStop.TheVariants as stop;
 ghost use Rattle.cose_gate_program.specs.Writing.{Wrote};
+ghost use Rattle.cose_gate_command.specs.RunLines.{Adds};
 ghost use Rattle.cose_stream.specs.Lines as spec;
+ghost use Rattle.cose_stream.specs.Lines.{SaysEnd};
 
+use crate::putting::StreamEnd;
 use crate::stop::{StreamRefusal, StreamStop};
+use crate::under::NoFile;
 use ciborium_ll::Write;
-use cose_gate::{NotBegun, Notice, write_notice};
-use cose_gate_command::{KeyFile, write_reason};
+use cose_gate::{GateFault, InputFault, Notice, write_notice};
+use cose_gate_command::{
+    KeyFile, Note, say_fault, say_keys, say_not_begun, say_reason, write_indented, write_more,
+    write_reason,
+};
+use std::alloc::Global;
+use std::cell::RefCell;
 
-/// Writes the line of an end, and flushes it; after that of a KEYS that can't be used one that says
-/// why, of the file `file`. A fault of the writer is ignored.
-pub fn tell_end<E: Write>(end: Result<(), StreamStop>, file: KeyFile<'_>, err: &mut E)
-    ensures { Wrote E.Write err.old err.new
-        (spec.end_lines file.entry.fault.now (option_copied file.entry.bytes) end) }
+/// What an end is told by.
+#[derive(Clone, Copy)]
+pub struct EndTeller<'a> {
+    /// Whether more is said of a refusal and of a stop.
+    pub verbose: bool,
+    /// The file KEYS.
+    pub file: KeyFile<'a>,
+    /// The external data in hex.
+    pub aad: Option<&'a str>,
+    /// The reason of a no.
+    pub note: &'a RefCell<Note>,
+}
+
+/// Writes the line of an end, and flushes it; after that of a KEYS that can't be used, or of no
+/// file for the payload, one that says why, and after that of a run that has passed over parts of
+/// other runs one that says so. If it is verbose, lines that begin with two blanks say more. A
+/// fault of the writer is ignored.
+pub fn tell_end<E: Write>(alloc: Global, ended: &StreamEnd, teller: EndTeller<'_>, err: &mut E)
+    ensures { SaysEnd E.Write teller.entry.verbose teller.entry.file.fault.now
+        (option_copied teller.entry.file.bytes) ended.now.end ended.now.others err.old err.new }
+{
+    write_end(&ended.end, err);
+    if teller.verbose {
+        say_why(alloc, &ended.end, teller, err);
+        say_others(ended.others, err);
+        say_keys(teller.note, err);
+    } else {
+        write_why(&ended.end, teller.file, err);
+        write_others(ended.others, err);
+    }
+}
+
+/// Writes the line of an end.
+fn write_end<E: Write>(end: &Result<(), StreamStop>, err: &mut E)
+    ensures { Wrote E.Write err.old err.new (spec.end_line end.now) }
 {
     match end {
-        Ok(()) => write(b"passed\n", err),
+        Ok(()) => write("passed\n", err),
+        Err(StreamStop::NotBegun(why)) => write_notice(&Notice::NotBegun(*why), err),
+        Err(StreamStop::Refused(why)) => write(refused_line(*why), err),
+        Err(StreamStop::Stopped(fault)) => write_stopped(fault, err),
+        Err(StreamStop::NoFile(_)) => write("stopped: write\n", err),
+    }
+}
+
+fn write_stopped<E: Write>(fault: &GateFault<InputFault>, err: &mut E)
+    ensures { Wrote E.Write err.old err.new (spec.end_line (Err (stop.Stopped fault.now))) }
+{
+    let fault = match fault {
+        GateFault::Decode(error) => GateFault::Decode(*error),
+        GateFault::Write => GateFault::Write,
+        GateFault::Memory => GateFault::Memory,
+    };
+    write_notice(&Notice::Stopped(fault), err);
+}
+
+/// Writes why KEYS can't be used, or why there is no file for the payload.
+fn write_why<E: Write>(end: &Result<(), StreamStop>, file: KeyFile<'_>, err: &mut E)
+    ensures { Wrote E.Write err.old err.new
+        (spec.why_line file.entry.fault.now (option_copied file.entry.bytes) end.now) }
+{
+    match end {
+        Err(StreamStop::NotBegun(why)) => write_reason(*why, file, err),
+        Err(StreamStop::NoFile(why)) => write_indented(no_file_text(*why), "", err),
+        Ok(()) | Err(StreamStop::Refused(_)) | Err(StreamStop::Stopped(_)) => {}
+    }
+}
+
+/// Writes that parts of other runs are there, if they are, and flushes the writer.
+fn write_others<E: Write>(others: u8, err: &mut E)
+    ensures { Wrote E.Write err.old err.new (spec.others_line others) }
+{
+    write(others_text(others), err);
+}
+
+fn others_text(others: u8) -> &'static str
+    ensures { result.now ≡ spec.others_line others }
+{
+    if others == 0 {
+        return "";
+    }
+    "  FILE.part is there: another run is at it, or was killed\n"
+}
+
+const OTHERS: &str = "FILE.part is there: another run is at it, or was killed";
+
+/// Says why a run ended so.
+fn say_why<E: Write>(
+    alloc: Global,
+    end: &Result<(), StreamStop>,
+    teller: EndTeller<'_>,
+    err: &mut E,
+)
+    ensures { Adds E.Write true err.old err.new }
+{
+    match end {
+        Ok(()) => {}
         Err(StreamStop::NotBegun(why)) => {
-            write_notice(&Notice::NotBegun(why), err);
-            write_reason(why, file, err);
+            say_not_begun(alloc, *why, teller.file, teller.aad, err);
         }
-        Err(StreamStop::Refused(why)) => write(refused_line(why).as_bytes(), err),
-        Err(StreamStop::Stopped(fault)) => write_notice(&Notice::Stopped(fault), err),
+        Err(StreamStop::Refused(StreamRefusal::Judged)) => say_reason(teller.note, err),
+        Err(StreamStop::Refused(why)) => write_more(refusal_text(*why), "", err),
+        Err(StreamStop::Stopped(fault)) => say_fault(fault, teller.note, err),
+        Err(StreamStop::NoFile(why)) => write_more(no_file_text(*why), "", err),
+    }
+}
+
+/// Says that parts of other runs are there, if they are.
+fn say_others<E: Write>(others: u8, err: &mut E)
+    ensures { Adds E.Write true err.old err.new }
+{
+    write_more(if 0 < others { OTHERS } else { "" }, "", err);
+}
+
+/// What a refusal means in which the judge has no part.
+fn refusal_text(why: StreamRefusal) -> &'static str {
+    match why {
+        StreamRefusal::NotTagged => "no tag; a COSE_Mac0 is in tag 17",
+        StreamRefusal::OtherTag => "another tag; a COSE_Mac0 is in tag 17",
+        StreamRefusal::Shape => "the item isn't a message of its tag",
+        StreamRefusal::Detached => "the message doesn't carry its payload",
+        StreamRefusal::Unsized => {
+            "the payload doesn't state its length in front; without --stream it may"
+        }
+        StreamRefusal::Judged => "",
+        StreamRefusal::ExtraneousData => {
+            "bytes follow the message; without --stream a sequence is read"
+        }
+    }
+}
+
+fn no_file_text(why: NoFile) -> &'static str
+    ensures { result.now ≡ spec.no_file_text why }
+{
+    match why {
+        NoFile::Dash => "FILE is -; a payload goes into a file, once its MAC is checked",
+        NoFile::Other => "FILE is there, and no regular file",
+        NoFile::Unknown => "it can't be told whether FILE is there",
+        NoFile::NoFolder => "the folder of FILE isn't there",
+        NoFile::NoPermission => "no permission to make FILE.part",
+        NoFile::NotMade => "FILE.part can't be made",
+        NoFile::Taken => "FILE.part and FILE.part1 to FILE.part99 are there",
     }
 }
 
@@ -33,7 +171,7 @@ pub fn end_status(end: &Result<(), StreamStop>) -> u8
         Ok(()) => 0,
         Err(StreamStop::NotBegun(why)) => why.status(),
         Err(StreamStop::Refused(_)) => 1,
-        Err(StreamStop::Stopped(_)) => 4,
+        Err(StreamStop::Stopped(_)) | Err(StreamStop::NoFile(_)) => 4,
     }
 }
 
@@ -52,9 +190,9 @@ fn refused_line(why: StreamRefusal) -> &'static str
 }
 
 /// Writes a line, and flushes it.
-fn write<E: Write>(line: &[u8], err: &mut E)
+fn write<E: Write>(line: &str, err: &mut E)
     ensures { Wrote E.Write err.old err.new line.now }
 {
-    let _ = err.write_all(line);
+    let _ = err.write_all(line.as_bytes());
     let _ = err.flush();
 }

@@ -1,12 +1,15 @@
 use Rattle.std.proofs.Common.{refl, sym, ◌∙◌, arith, le_refl}
 use Rattle.std.proofs.lemmas.Result.{err_from_is_err_and}
+use Rattle.ciborium_ll.specs.declared.hdr.Header.TheVariants.{Array, Tag}
 use Rattle.ciborium_value.specs.Tree.{no_trees, one_more, bytes}
 use Rattle.coset_headers.specs.View.{header_view, protected_view}
 use Rattle.coset_headers.specs.Wrong.{WrongProtected, WrongHeader}
+use Rattle.cose_gate.specs.Forms.{tag_number}
 use Rattle.cose_gate.specs.ElementFaults.{WrongPart, NoneWrong, NoBytes}
 use Rattle.cose_gate.proofs.Wrong.{first_tells, part_tells, protected_place, unprotected_place, signature_place, any_place, short_tells_part, close_tells, refused_tells}
 use Rattle.cose_gate.proofs.Heads.{four_tells, size_tells}
 use Rattle.cose_gate.proofs.CutOff.{copied_part}
+use Rattle.cose_gate.proofs.Placed.{placed}
 use Rattle.cose_gate.proofs.Whole.{within_start, within_more, part_is, paid, paid_within, checked, received_is, subject_is, question_is, in_pieces, asked_as}
 use Rattle.cose_gate_core.specs.Findings.{plain}
 use Rattle.cose_gate.proofs.Far.{far_more}
@@ -108,6 +111,12 @@ returns-clause-ok g c =
       asked_as g.J.Judge.decided _ _ _ _ _ (c.decide-yes.ensures.told _ _ h) told q,
     ))
     paying c.in_ok-signature.ensures.ok c.in_ok-close.ensures.ok
+
+pub returns-clause-place : goal.returns-clause-place
+returns-clause-place g c =
+    let a = part_is _ _ _ _ _ _ c.in_ok-protected.ensures.ok in
+    let b = part_is _ _ _ _ _ _ c.in_ok-unprotected.ensures.ok in
+    placed _ (Tag (tag_number c.in_ok-form.form)) (Array c.in_ok-count.count) _ a.0 b.0 _ _ _ _ _ _ _ _ _ _ _ _ _ _ c.in_ok-form.ensures.ok c.in_ok-count.ensures.ok a.1 b.1 c.in_ok-size.ensures.ok c.offset.ensures refl
 
 pub returns-in_err-form-clause-far : goal.returns-in_err-form-clause-far
 returns-in_err-form-clause-far g c =

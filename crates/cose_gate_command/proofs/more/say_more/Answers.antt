@@ -6,4 +6,4 @@ pub returns-in_default : goal.returns-in_default
 returns-in_default g c = adds_nothing g.W.Write true _
 
 pub returns : goal.returns
-returns g c = adds_flushed g.W.Write _ _ _ (adds_both g.W.Write _ _ _ c.write_more.ensures c.write_more-2.ensures) c.flush.ensures
+returns g c = adds_flushed g.W.Write _ _ _ (adds_both g.W.Write _ _ _ (adds_both g.W.Write _ _ _ c.write_more.ensures c.write_more-2.ensures) c.write_more-3.ensures) c.flush.ensures

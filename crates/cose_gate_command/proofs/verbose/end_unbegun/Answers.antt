@@ -1,5 +1,5 @@
 use Rattle.std.specs.Prelude.{option_copied}
-use Rattle.cose_gate_command.proofs.Reasons.{with_more, with_reason}
+use Rattle.cose_gate_command.proofs.KeyReasons.{with_more, with_reason}
 use Rattle.cose_gate_command.proofs.verbose.end_unbegun.Goals as goal
 
 pub returns-then-asked-clause-said : goal.returns-then-asked-clause-said

@@ -5,7 +5,7 @@ use Rattle.cose_gate_program.proofs.Tellings.{began, ran_as}
 use Rattle.cose_gate_command.specs.RunLines.{SaysSince}
 use Rattle.cose_gate_command.proofs.RunLines.{said_all, same_writer}
 use Rattle.cose_gate_command.proofs.Ends.{lent_on}
-use Rattle.cose_gate_command.proofs.Reasons.{plain_run}
+use Rattle.cose_gate_command.proofs.KeyReasons.{plain_run}
 use Rattle.cose_gate_command.proofs.verbose.run_asked.Goals as goal
 
 pub returns-in-Ok-clause-ran : goal.returns-in-Ok-clause-ran

@@ -1,8 +1,6 @@
-use Rattle.std.proofs.Common.{Bool, MutBor, ap, subst}
+use Rattle.std.proofs.Common.{Bool, MutBor, ap, refl, subst}
 use Rattle.std.proofs.KnownBytes.{Keeps-refl}
 use Rattle.std.proofs.lemmas.Result.{err_from_is_err_and}
-use Rattle.cose_gate.specs.KeyView.{key_set_view}
-use Rattle.cose_gate.specs.HmacJudges.{says_yes}
 use Rattle.cose_stream.specs.Streams.{IsAnswered, IsEnd}
 use Rattle.cose_stream.proofs.Ending.{stops, reads_no_more, all_known, nothing_more, behind, from_start, taken, all_written, part_usually, failed_once, failed_then}
 use Rattle.cose_stream.proofs.streaming.check.Goals as goal
@@ -14,15 +12,15 @@ returns-in-Err-clause-ended g c =
 
 pub returns-then-not-streamed-clause-ended : goal.returns-then-not-streamed-clause-ended
 returns-then-not-streamed-clause-ended g c =
-    let t = taken _ _ _ _ _ _ _ _ _ (key_set_view c.args.beginning.now.keys) _ _ _ _ _ _ _ _ c.default-limits.ensures.0 c.default-limits.ensures.1 c.new-judge.ensures c.as_slice-aad.ensures.value
+    let t = taken _ _ _ _ _ _ _ _ _ (g.J.Judge.yes (g.J.Judge.who c.args.judge.now)) _ _ _ _ _ _ _ c.default-limits.ensures.0 c.default-limits.ensures.1 refl
     (from_start g.R.Read.left _ _ _ (ap (λ (z : MutBor _). z.now) c.from-decoder.ensures.0) c.from-decoder.ensures.2) c.from-decoder.ensures.1 c.in-Ok.ensures.ok in
     let part = part_usually g.W.Write _ _ _ _ _ _ c.default-limits.ensures.0 c.default-limits.ensures.1
     (from_start g.R.Read.left _ _ _ (ap (λ (z : MutBor _). z.now) c.from-decoder.ensures.0) c.from-decoder.ensures.2) c.in-Ok.ensures.part in
-    ((t.payload, t.front, subst (λ (z : Bool). IsAnswered (says_yes (key_set_view c.args.beginning.now.keys)) c.args.beginning.now.aad.items z t.payload t.front) c.if-not-streamed.true t.answered, behind _ _ t.front _ t.left (all_known _)), part)
+    ((t.payload, t.front, subst (λ (z : Bool). IsAnswered (g.J.Judge.yes (g.J.Judge.who c.args.judge.now)) c.args.aad.now z t.payload t.front) c.if-not-streamed.true t.answered, behind _ _ t.front _ t.left (all_known _)), part)
 
 pub returns-in_err-has_ended-clause-ended : goal.returns-in_err-has_ended-clause-ended
 returns-in_err-has_ended-clause-ended g c =
-    let t = taken _ _ _ _ _ _ _ _ _ (key_set_view c.args.beginning.now.keys) _ _ _ _ _ _ _ _ c.default-limits.ensures.0 c.default-limits.ensures.1 c.new-judge.ensures c.as_slice-aad.ensures.value
+    let t = taken _ _ _ _ _ _ _ _ _ (g.J.Judge.yes (g.J.Judge.who c.args.judge.now)) _ _ _ _ _ _ _ c.default-limits.ensures.0 c.default-limits.ensures.1 refl
     (from_start g.R.Read.left _ _ _ (ap (λ (z : MutBor _). z.now) c.from-decoder.ensures.0) c.from-decoder.ensures.2) c.from-decoder.ensures.1 c.in-Ok.ensures.ok in
     let part = part_usually g.W.Write _ _ _ _ _ _ c.default-limits.ensures.0 c.default-limits.ensures.1
     (from_start g.R.Read.left _ _ _ (ap (λ (z : MutBor _). z.now) c.from-decoder.ensures.0) c.from-decoder.ensures.2) c.in-Ok.ensures.part in
@@ -31,14 +29,14 @@ returns-in_err-has_ended-clause-ended g c =
 
 pub returns-then-not-branch-clause-ended : goal.returns-then-not-branch-clause-ended
 returns-then-not-branch-clause-ended g c =
-    let t = taken _ _ _ _ _ _ _ _ _ (key_set_view c.args.beginning.now.keys) _ _ _ _ _ _ _ _ c.default-limits.ensures.0 c.default-limits.ensures.1 c.new-judge.ensures c.as_slice-aad.ensures.value
+    let t = taken _ _ _ _ _ _ _ _ _ (g.J.Judge.yes (g.J.Judge.who c.args.judge.now)) _ _ _ _ _ _ _ c.default-limits.ensures.0 c.default-limits.ensures.1 refl
     (from_start g.R.Read.left _ _ _ (ap (λ (z : MutBor _). z.now) c.from-decoder.ensures.0) c.from-decoder.ensures.2) c.from-decoder.ensures.1 c.in-Ok.ensures.ok in
     let part = part_usually g.W.Write _ _ _ _ _ _ c.default-limits.ensures.0 c.default-limits.ensures.1
     (from_start g.R.Read.left _ _ _ (ap (λ (z : MutBor _). z.now) c.from-decoder.ensures.0) c.from-decoder.ensures.2) c.in-Ok.ensures.part in (
       (
         t.payload,
         t.front,
-        subst (λ (z : Bool). IsAnswered (says_yes (key_set_view c.args.beginning.now.keys)) c.args.beginning.now.aad.items z t.payload t.front) c.if-not-streamed.false t.answered,
+        subst (λ (z : Bool). IsAnswered (g.J.Judge.yes (g.J.Judge.who c.args.judge.now)) c.args.aad.now z t.payload t.front) c.if-not-streamed.false t.answered,
         behind _ _ t.front _ t.left (subst (IsEnd _) c.if-not-branch.true c.in_ok-has_ended.ensures.ok),
       ),
       part,
@@ -46,12 +44,12 @@ returns-then-not-branch-clause-ended g c =
 
 pub returns-in-Ok-flush-clause-ended : goal.returns-in-Ok-flush-clause-ended
 returns-in-Ok-flush-clause-ended g c =
-    let t = taken _ _ _ _ _ _ _ _ _ (key_set_view c.args.beginning.now.keys) _ _ _ _ _ _ _ _ c.default-limits.ensures.0 c.default-limits.ensures.1 c.new-judge.ensures c.as_slice-aad.ensures.value
+    let t = taken _ _ _ _ _ _ _ _ _ (g.J.Judge.yes (g.J.Judge.who c.args.judge.now)) _ _ _ _ _ _ _ c.default-limits.ensures.0 c.default-limits.ensures.1 refl
     (from_start g.R.Read.left _ _ _ (ap (λ (z : MutBor _). z.now) c.from-decoder.ensures.0) c.from-decoder.ensures.2) c.from-decoder.ensures.1 c.in-Ok.ensures.ok in
     let sent = all_written g.W.Write _ _ _ _ t.payload c.if-is_err.ensures.value t.copied c.in-Ok-flush.ensures.same c.in-Ok-flush.ensures.failed in (
       t.payload,
       t.front,
-      subst (λ (z : Bool). IsAnswered (says_yes (key_set_view c.args.beginning.now.keys)) c.args.beginning.now.aad.items z t.payload t.front) c.if-not-streamed.false t.answered,
+      subst (λ (z : Bool). IsAnswered (g.J.Judge.yes (g.J.Judge.who c.args.judge.now)) c.args.aad.now z t.payload t.front) c.if-not-streamed.false t.answered,
       nothing_more _ t.front (behind _ _ t.front _ t.left (subst (IsEnd _) c.if-not-branch.false c.in_ok-has_ended.ensures.ok)),
       sent.0,
       sent.1,
@@ -59,7 +57,7 @@ returns-in-Ok-flush-clause-ended g c =
 
 pub returns-then-is_err-clause-ended : goal.returns-then-is_err-clause-ended
 returns-then-is_err-clause-ended g c =
-    let t = taken _ _ _ _ _ _ _ _ _ (key_set_view c.args.beginning.now.keys) _ _ _ _ _ _ _ _ c.default-limits.ensures.0 c.default-limits.ensures.1 c.new-judge.ensures c.as_slice-aad.ensures.value
+    let t = taken _ _ _ _ _ _ _ _ _ (g.J.Judge.yes (g.J.Judge.who c.args.judge.now)) _ _ _ _ _ _ _ c.default-limits.ensures.0 c.default-limits.ensures.1 refl
     (from_start g.R.Read.left _ _ _ (ap (λ (z : MutBor _). z.now) c.from-decoder.ensures.0) c.from-decoder.ensures.2) c.from-decoder.ensures.1 c.in-Ok.ensures.ok in
     let part = part_usually g.W.Write _ _ _ _ _ _ c.default-limits.ensures.0 c.default-limits.ensures.1
     (from_start g.R.Read.left _ _ _ (ap (λ (z : MutBor _). z.now) c.from-decoder.ensures.0) c.from-decoder.ensures.2) c.in-Ok.ensures.part in
@@ -67,7 +65,7 @@ returns-then-is_err-clause-ended g c =
 
 pub returns-clause-ended : goal.returns-clause-ended
 returns-clause-ended g c =
-    let t = taken _ _ _ _ _ _ _ _ _ (key_set_view c.args.beginning.now.keys) _ _ _ _ _ _ _ _ c.default-limits.ensures.0 c.default-limits.ensures.1 c.new-judge.ensures c.as_slice-aad.ensures.value
+    let t = taken _ _ _ _ _ _ _ _ _ (g.J.Judge.yes (g.J.Judge.who c.args.judge.now)) _ _ _ _ _ _ _ c.default-limits.ensures.0 c.default-limits.ensures.1 refl
     (from_start g.R.Read.left _ _ _ (ap (λ (z : MutBor _). z.now) c.from-decoder.ensures.0) c.from-decoder.ensures.2) c.from-decoder.ensures.1 c.in-Ok.ensures.ok in
     let part = part_usually g.W.Write _ _ _ _ _ _ c.default-limits.ensures.0 c.default-limits.ensures.1
     (from_start g.R.Read.left _ _ _ (ap (λ (z : MutBor _). z.now) c.from-decoder.ensures.0) c.from-decoder.ensures.2) c.in-Ok.ensures.part in

@@ -12,4 +12,4 @@ returns-in_err-beginning-clause-ran g c =
 pub returns-clause-ran : goal.returns-clause-ran
 returns-clause-ran g c =
     let b = c.in_ok-beginning.ensures in
-    begun b.0 _ (key_set_view c.in_ok-beginning.beginning.keys) b.1 b.3 b.2 c.check.ensures.ended c.check.ensures.failed
+    begun b.0 _ (key_set_view c.in_ok-beginning.beginning.keys) b.1 b.3 b.2 (rw (c.new-judge.ensures, c.as_slice-aad.ensures.value) at c.check.ensures.ended) c.check.ensures.failed
