@@ -114,16 +114,16 @@ rows() {
 0|/dev/null|passed|cose-gate --stream keys.cbor 01 < one.cbor
 0|/dev/null|passed|cose-gate --stream --payload $T/payload keys.cbor 01 < one.cbor && printf hi | cmp - $T/payload && [ ! -e $T/payload.part ]
 3|/dev/null|  no such file|cose-gate --stream nosuch 01 < one.cbor
-1|/dev/null|refused: Judged|{ printf '\321\204\103\241\1\5\240\132\4\0\0\0'; head -c 67108864 /dev/zero; printf '\130\40'; head -c 32 /dev/zero; } | (ulimit -v 20000; cose-gate --stream --payload $T/large keys.cbor); s=$?; [ ! -e $T/large ] && [ ! -e $T/large.part ] && exit $s
+1|/dev/null|refused: Judged|{ printf '\321\204\103\241\1\5\240\132\4\0\0\0'; head -c 67108864 /dev/zero; printf '\130\40'; head -c 32 /dev/zero; } | (ulimit -v 20000; cose-gate --stream --payload $T/large keys.cbor); s=$?; [ ! -e $T/large ] && [ ! -e $T/large.part ] && exit $s || exit 9
 4|/dev/null|stopped: write|{ printf '\321\204\103\241\1\5\240\132\4\0\0\0'; head -c 67108864 /dev/zero; printf '\130\40'; head -c 32 /dev/zero; } | (trap '' XFSZ; ulimit -f 100; cose-gate --stream --payload $T/large keys.cbor); s=$?; [ ! -e $T/large ] && [ ! -e $T/large.part ] && exit $s
 # its reasons
-1|/dev/null|  the tag isn't that of the first matching key, with 0 bytes of external data|cose-gate --stream --verbose keys.cbor < one.cbor
-1|/dev/null|  cose-gate judges only COSE_Mac0: see cose-verify(1)|printf '\322\204\103\241\1\46\240\101\0\101\0' | cose-gate --stream --payload $T/none --verbose keys.cbor
-4|/dev/null|  item 1 at 0: the input ends inside the item|head -c 30 one.cbor | cose-gate --stream keys.cbor 01 --verbose
+1|/dev/null||cose-gate --stream --verbose keys.cbor < one.cbor 2> $T/said; s=$?; cmp $T/said <(printf "refused: Judged\n  the tag isn't that of the first matching key, with 0 bytes of external data\n  a key of KEYS has a secret of fewer than 16 bytes, which can be guessed\n") && exit $s || exit 9
+1|/dev/null||printf '\322\204\103\241\1\46\240\101\0\101\0' | cose-gate --stream --payload $T/none --verbose keys.cbor 2> $T/said; s=$?; cmp $T/said <(printf "refused: Judged\n  cose-gate judges only COSE_Mac0: see cose-verify(1)\n  a key of KEYS has a secret of fewer than 16 bytes, which can be guessed\n") && exit $s || exit 9
+4|/dev/null||head -c 30 one.cbor | cose-gate --stream keys.cbor 01 --verbose 2> $T/said; s=$?; cmp $T/said <(printf "stopped: decode: Io(EndOfFile)\n  item 1 at 0: the input ends inside the item\n  a key of KEYS has a secret of fewer than 16 bytes, which can be guessed\n") && exit $s || exit 9
 3|/dev/null|  nosuch: no such file|cose-gate --stream --verbose nosuch 01 < one.cbor
 # FILE stays as it was after a refusal, and keeps its mode
-1|/dev/null|refused: Judged|LC_ALL=C sed s/Bhi/Bho/ one.cbor | cose-gate --stream --payload $T/payload keys.cbor 01; s=$?; printf hi | cmp - $T/payload && [ ! -e $T/payload.part ] && exit $s
-1|/dev/null|refused: ExtraneousData|cat one.cbor one.cbor | cose-gate --stream --payload $T/none keys.cbor 01; s=$?; [ ! -e $T/none ] && [ ! -e $T/none.part ] && exit $s
+1|/dev/null|refused: Judged|LC_ALL=C sed s/Bhi/Bho/ one.cbor | cose-gate --stream --payload $T/payload keys.cbor 01; s=$?; printf hi | cmp - $T/payload && [ ! -e $T/payload.part ] && exit $s || exit 9
+1|/dev/null|refused: ExtraneousData|cat one.cbor one.cbor | cose-gate --stream --payload $T/none keys.cbor 01; s=$?; [ ! -e $T/none ] && [ ! -e $T/none.part ] && exit $s || exit 9
 0|/dev/null|passed|: > $T/mode; chmod 640 $T/mode; umask 077; cose-gate --stream --payload $T/mode keys.cbor 01 < one.cbor && [ $(stat -c %a $T/mode) = 640 ]
 0|||{ head -c 40 one.cbor; sleep 2; } | cose-gate --stream --payload $T/half keys.cbor 01 2> /dev/null & sleep 1; [ -e $T/half.part ] && [ ! -e $T/half ]; s=$?; wait; exit $s
 # two runs with one FILE; what another run, a link or a FIFO has as FILE.part stays
@@ -231,7 +231,7 @@ rows() {
 # a live pipe: what passed and its line are out before more is waited for, though half of the next item is there; a signal loses neither
 124|one.cbor|item 1 at 0: passed|{ cat one.cbor; sleep 3; } | timeout 2 cose-gate keys.cbor 01
 124|one.cbor|item 1 at 0: passed|{ cat one.cbor; head -c 20 one.cbor; sleep 3; } | timeout 2 cose-gate keys.cbor 01
-124|one.cbor|item 1 at 0: passed|{ cat one.cbor; sleep 3; } | timeout 2 cose-gate --verbose keys.cbor 01
+124|one.cbor|  a key of KEYS has a secret of fewer than 16 bytes, which can be guessed|{ cat one.cbor; sleep 3; } | timeout 2 cose-gate --verbose keys.cbor 01
 124|one.cbor|item 1 at 0: passed|{ cat one.cbor; sleep 3; } | timeout 2 cose-pass $T/one.records 01
 124|$T/one.records|item 1 at 0: passed|{ cat one.cbor; sleep 3; } | timeout 2 cose-ask 01
 4||stopped: write|{ cat one.cbor one.cbor; sleep 3; } | timeout 2 cose-ask 01 > /dev/full
