@@ -185,8 +185,8 @@ rows() {
 # its lines: the place, and why; what it has before it waits; an output that fails while it would wait
 0|||[ "$(printf '\1\360' | cose-sift 2>&1 > /dev/null | head -n 1)" = "item at 1: left out: it can't be read" ]
 0|||[ "$({ printf '\1'; cat one.cbor; } | cose-sift --max 47 2>&1 > /dev/null | head -n 1)" = 'item at 1: left out: longer than --max' ]
-0|one.cbor||set +o pipefail; { cat one.cbor; head -c 20 one.cbor; sleep 2; } | cose-sift | timeout 1 head -c 48
-0|one.cbor||set +o pipefail; { cat one.cbor; printf '\130'; sleep 2; } | cose-sift | timeout 1 head -c 48
+0|one.cbor||set +o pipefail; cat one.cbor <(head -c 20 one.cbor) > $T/held; { cat $T/held; sleep 2; } | cose-sift | timeout 1 head -c 48
+0|one.cbor||set +o pipefail; cat one.cbor <(printf '\130') > $T/held; { cat $T/held; sleep 2; } | cose-sift | timeout 1 head -c 48
 124|/dev/null|item at 0: left out: it can't be read|{ printf '\360'; sleep 3; } | timeout 2 cose-sift
 4||stopped: write|{ cat one.cbor; sleep 3; } | timeout 2 cose-sift > /dev/full
 # a full disk, and a pipe that nobody reads
@@ -230,7 +230,7 @@ rows() {
 70|/dev/null|package.sh: rt isn't in PATH: it comes with Rattle's kit, KIT/bin|sed -i 's/usize/u64/' $T/copy/crates/ciborium_ll/src/dec.rt && touch -d 2000-01-01 $T/copy/crates/ciborium_ll/src/dec.rt && PATH=$bare bash $T/copy/scripts/package.sh $T/made
 # a live pipe: what passed and its line are out before more is waited for, though half of the next item is there; a signal loses neither
 124|one.cbor|item 1 at 0: passed|{ cat one.cbor; sleep 3; } | timeout 2 cose-gate keys.cbor 01
-124|one.cbor|item 1 at 0: passed|{ cat one.cbor; head -c 20 one.cbor; sleep 3; } | timeout 2 cose-gate keys.cbor 01
+124|one.cbor|item 1 at 0: passed|cat one.cbor <(head -c 20 one.cbor) > $T/held; { cat $T/held; sleep 3; } | timeout 2 cose-gate keys.cbor 01
 124|one.cbor|  a key of KEYS has a secret of fewer than 16 bytes, which can be guessed|{ cat one.cbor; sleep 3; } | timeout 2 cose-gate --verbose keys.cbor 01
 124|one.cbor|item 1 at 0: passed|{ cat one.cbor; sleep 3; } | timeout 2 cose-pass $T/one.records 01
 124|$T/one.records|item 1 at 0: passed|{ cat one.cbor; sleep 3; } | timeout 2 cose-ask 01
