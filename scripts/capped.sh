@@ -7,7 +7,7 @@
 #   array or, 256 levels deep, for maps of one entry each.
 # - The gate reads 1,000,000 items under the least heap for 1,000 of them, and a message with 64 text labels under that for one with none.
 #   The streaming check reads a payload of 16 MiB under the least heap for one of 0 bytes, and with `--payload` it writes one of 8 MiB under
-#   that for one of 0 bytes. `cose-sift` leaves out an item of 8 MiB, and one with 65,000 open arrays, under little more than a small one needs.
+#   that for one of 0 bytes. `cose-sift` leaves out an item of 8 MiB under 2 MiB more than a small one needs, and 65,000 open arrays under 6.
 # - The gate holds a payload once. A program that makes the bytes that a tag covers holds it once more.
 # - The gate, `cose-ask`, `cose-pass`, `cose-sift` and `cose-show` end by themselves, and not by a signal, under each limit from the least for an empty
 #   input to what a whole run takes. What they write then are whole messages, the first ones, and all of them if the status isn't 4; of
@@ -172,11 +172,11 @@ input=$folder/message
 least 0 "$gate" --stream --payload "$folder/payload" "$folder/keys"
 payload message 0 "$cap"
 payload large 8388608 "$cap"
-# the sieve: an item that is too long isn't held; of each open array a level of 16 bytes is, in a list that doubles
+# the sieve: of an item that is too long 1 MiB is held, and of each open array a level of 16 bytes, in lists that double
 input=$folder/message
 least 0 "$sift"
 input=$folder/large
-within "an item of 8 MiB that is left out" "$cap" 1 "$sift"
+within "an item of 8 MiB that is left out" $((cap + 2 * 1024)) 1 "$sift"
 levels 65000 '\237' > "$folder/open"
 levels 65000 '\377' >> "$folder/open"
 input=$folder/open
