@@ -1,7 +1,8 @@
 //! Reads titles and strings.
-ghost use Rattle.std.specs.Prelude.{◌≡◌, ◌≤◌, ◌<◌, ◌+◌, ◌++◌, ◌^◌, ℕ, None, Some, OnOk, OnErr};
-ghost use Rattle.std.specs.Prelude.{IsTrue, IsFalse};
-ghost use Rattle.std.specs.Prelude.{IfOk, IfErr, IfSome, IfNone, length, min, max, Bool, true, []};
+ghost use Rattle.std.specs.Prelude.{◌≡◌, ◌≢◌, ◌≤◌, ◌<◌, ◌+◌, ◌++◌, ◌^◌, ℕ, OnOk, OnErr};
+ghost use Rattle.std.specs.Prelude.{Option, None, Some, IsTrue, IsFalse};
+ghost use Rattle.std.specs.Prelude.{IfOk, IfErr, IfSome, IfNone, MatchBool, length, min, max};
+ghost use Rattle.std.specs.Prelude.{Bool, true, []};
 ghost use Rattle.std.specs.Prelude.{string_bytes};
 ghost use Rattle.std.specs.Str.{IsUtf8};
 ghost use Rattle.std.specs.String.{string_capacity};
@@ -11,13 +12,13 @@ ghost use Rattle.ciborium_ll.specs.declared.hdr.Header.{Header};
 ghost use Rattle.ciborium_ll.specs.declared.hdr.Header.TheVariants.{Text};
 ghost use Rattle.ciborium_ll.specs.Seen.{Takes};
 ghost use Rattle.ciborium_ll.specs.Views.{left_of, offset_of, waiting_of};
-ghost use Rattle.ciborium_ll.specs.Views.{reader_of, seen, shortest_of, last_head};
+ghost use Rattle.ciborium_ll.specs.Views.{reader_of, seen, shortest_of, last_head, last_length};
 ghost use Rattle.ciborium.specs.Damage.{TitleDamage, ChunkDamage, StringDamage};
 ghost use Rattle.ciborium.specs.Held.{IsEarned, IsEarnedSince, IsFitting, UnlessMemory};
 ghost use Rattle.ciborium.specs.Reading.{NamesFault, NamesFaultAfterTitle, NamesShort};
 ghost use Rattle.ciborium.specs.Reading.{Steady, TakesSome, IsNoMemory, IfEnd};
 ghost use Rattle.ciborium.specs.Reading.{Leaves, OneAfterTitle};
-ghost use Rattle.ciborium.specs.Reading.{string_head, IsBody, StringAfterHead, ChunkBody, IsPart};
+ghost use Rattle.ciborium.specs.Reading.{string_head, IsBody, StringAfterHead, ChunkBody};
 
 use crate::de::Error;
 use ciborium_ll::{Decoder, Header, Read};
@@ -260,47 +261,15 @@ fn read_chunk<R: Read>(
     Ok(())
 }
 
-/// What a header is inside an open string.
-pub enum Part {
-    /// The break.
-    Close,
-    /// An open string of the same kind.
-    Open,
-    /// A string of the same kind, of this length.
-    Chunk(usize),
-    /// Anything else.
-    Other,
-}
-
-fn part_of(text: bool, header: Header) -> Part
-    ensures { IsPart text header result }
+/// Whether the head that was read is one of a string of this kind.
+fn is_string<R: Read>(decoder: &Decoder<R>, text: bool) -> bool
+    ensures { MatchBool result (last_head decoder.now ≡ string_head text (last_length decoder.now))
+        ((o : Option ℕ) → last_head decoder.now ≢ string_head text o) }
 {
-    match header {
-        Header::Break => Part::Close,
-        Header::Bytes(length) => {
-            if text {
-                Part::Other
-            } else {
-                sized_part(length)
-            }
-        }
-        Header::Text(length) => {
-            if text {
-                sized_part(length)
-            } else {
-                Part::Other
-            }
-        }
-        _ => Part::Other,
-    }
-}
-
-fn sized_part(length: Option<usize>) -> Part
-    ensures { (text : Bool) → IsPart text (string_head text length) result }
-{
-    match length {
-        Some(n) => Part::Chunk(n),
-        None => Part::Open,
+    if text {
+        decoder.major() == 3
+    } else {
+        decoder.major() == 2
     }
 }
 
@@ -356,17 +325,20 @@ fn read_open<R: Read>(
 {
     let mut inner: usize = 0;
     'parts: loop {
-        let (place, header) = next_title(decoder)?;
-        match part_of(text, header) {
-            Part::Close => {
-                if inner == 0 {
-                    return Ok(());
-                }
-                inner -= 1;
+        let place = decoder.offset();
+        next_head(decoder)?;
+        if is_string(decoder, text) {
+            match decoder.head_length() {
+                Some(n) => read_chunk(decoder, text, n, place, into)?,
+                None => inner += 1,
             }
-            Part::Open => inner += 1,
-            Part::Chunk(n) => read_chunk(decoder, text, n, place, into)?,
-            Part::Other => return Err(Error::Syntax(place)),
+        } else if decoder.head().is_break() {
+            if inner == 0 {
+                return Ok(());
+            }
+            inner -= 1;
+        } else {
+            return Err(Error::Syntax(place));
         }
     }
 }
