@@ -1,4 +1,5 @@
 pub mod Arrays
+pub mod Errors
 pub mod ErrorsEqual
 pub mod Items
 pub mod Loops

@@ -2,7 +2,7 @@ pub mod Arrays
 pub mod Converting
 pub mod Entries
 pub mod ErrorContent
-pub mod ErrorWords
+pub mod ErrorTexts
 pub mod Facts
 pub mod Faults
 pub mod Fields
