@@ -131,7 +131,7 @@ impl Header {
             key_id: self.key_id.as_slice().to_vec(alloc)?,
             iv: self.iv.as_slice().to_vec(alloc)?,
             partial_iv: self.partial_iv.as_slice().to_vec(alloc)?,
-            counter_signatures: Vec::new(alloc),
+            counter_signatures: Vec::with_capacity(alloc, self.counter_signatures.len())?,
             rest: clone_entries(alloc, &self.rest)?,
         })
     }
