@@ -9,13 +9,13 @@ use Rattle.ciborium_value.specs.Encoding.{enc}
 use Rattle.coset_labels.specs.Fields.{LabelFields, number, Named}
 use Rattle.coset_labels.specs.Labels.{label_tree, named_tree}
 use Rattle.coset_labels.specs.Orders.{label_cmp}
+use Rattle.coset_labels.specs.Table as table
 use Rattle.coset_headers.specs.Fields.{Plain, HeaderFields, header, ProtectedFields, protected, SignatureFields, signature, Signatures, no_signatures, signature_more}
 use Rattle.coset_headers.specs.Headers.{list_of_three}
 
 -- the entry with the label n, if there is a value for it
 abbrev pub entry_of : ℕ → Option Tree → List (LabelFields × Tree)
-entry_of n None = []
-entry_of n (Some t) = (number (pos n), t) ∷ []
+entry_of = table.entry_of (λ n. number (pos n))
 
 -- the values of fields; an empty one has none
 abbrev pub crit_value : List Named → Option Tree
@@ -33,8 +33,7 @@ fields_of p o = (1, option_map named_tree p.alg) ∷ (2, crit_value p.crit) ∷ 
 
 -- the entries of the fields that are set, and then the entries es
 abbrev pub entries_of : List (ℕ × Option Tree) → List (LabelFields × Tree) → List (LabelFields × Tree)
-entries_of [] es = es
-entries_of (f ∷ fs) es = entry_of f.0 f.1 ++ entries_of fs es
+entries_of = table.entries_of (λ n. number (pos n))
 
 -- the entries in their fixed order, those of empty fields left away
 abbrev pub written_entries : Plain → Option Tree → List (LabelFields × Tree)
