@@ -5,3 +5,4 @@ pub mod Items
 pub mod Loops
 pub mod Marks
 pub mod Orders
+pub mod Table

@@ -13,5 +13,6 @@ pub mod Names
 pub mod Orders
 pub mod Reading
 pub mod SeenLabels
+pub mod Table
 pub mod View
 pub mod Walks

@@ -40,7 +40,7 @@ fn take_recipients(alloc: Global, recipients: &mut [CoseRecipient]) -> Result<Ve
     ensures { Writes (recipients_trees (recipients_view recipients.old)) (λ v. views v.items)
         result }
 {
-    let mut values = Vec::new(alloc);
+    let mut values = Vec::with_capacity(alloc, recipients.len())?;
     'recipients: for recipient in recipients.iter_mut() {
         let value = take_recipient(alloc, recipient)?;
         values.push(value)?;
