@@ -141,14 +141,20 @@ claims_again t c (ps, es, q, r, d, w) =
     let ws = entries_of key (fields_of c) (others es) in
     let g = again is_name key (λ n m. refl) is_name_is is_core name_of named_tree (named_back cwt_claim_names.is_registered is_private_use) (fields_of c)
     (refl, (refl, (refl, (refl, (refl, (refl, (refl, tt))))))) (refl, (refl, (refl, (refl, (refl, (refl, (refl, tt))))))) (core_counts c) ps es r d in
-    let whole : claims_tree c ≡ map_tree (pairs (map entry_tree ws)) = ap (λ z. map_tree (pairs (map entry_tree z))) (sym (written_is c (others es) (sym w.rest))) in
-    (pairs (map entry_tree ws), ws, whole, g.entries_are, g.distinct, record {
-      issuer = kept _ _ _ _ _ (g.has 1 refl) (optional_back text_of text text_back _ _ w.issuer);
-      subject = kept _ _ _ _ _ (g.has 2 refl) (optional_back text_of text text_back _ _ w.subject);
-      audience = kept _ _ _ _ _ (g.has 3 refl) (optional_back text_of text text_back _ _ w.audience);
-      expiration_time = kept _ _ _ _ _ (g.has 4 refl) (optional_back time_of time_tree time_back _ _ w.expiration_time);
-      not_before = kept _ _ _ _ _ (g.has 5 refl) (optional_back time_of time_tree time_back _ _ w.not_before);
-      issued_at = kept _ _ _ _ _ (g.has 6 refl) (optional_back time_of time_tree time_back _ _ w.issued_at);
-      cwt_id = kept _ _ _ _ _ (g.has 7 refl) (optional_back bytes_of bytes bytes_back _ _ w.cwt_id);
-      rest = w.rest ∙ sym g.others_are;
-    })
+    let whole : claims_tree c ≡ map_tree (pairs (map entry_tree ws)) = ap (λ z. map_tree (pairs (map entry_tree z))) (sym (written_is c (others es) (sym w.rest))) in (
+      pairs (map entry_tree ws),
+      ws,
+      whole,
+      g.entries_are,
+      g.distinct,
+      record {
+        issuer = kept _ _ _ _ _ (g.has 1 refl) (optional_back text_of text text_back _ _ w.issuer);
+        subject = kept _ _ _ _ _ (g.has 2 refl) (optional_back text_of text text_back _ _ w.subject);
+        audience = kept _ _ _ _ _ (g.has 3 refl) (optional_back text_of text text_back _ _ w.audience);
+        expiration_time = kept _ _ _ _ _ (g.has 4 refl) (optional_back time_of time_tree time_back _ _ w.expiration_time);
+        not_before = kept _ _ _ _ _ (g.has 5 refl) (optional_back time_of time_tree time_back _ _ w.not_before);
+        issued_at = kept _ _ _ _ _ (g.has 6 refl) (optional_back time_of time_tree time_back _ _ w.issued_at);
+        cwt_id = kept _ _ _ _ _ (g.has 7 refl) (optional_back bytes_of bytes bytes_back _ _ w.cwt_id);
+        rest = w.rest ∙ sym g.others_are;
+      },
+    )
