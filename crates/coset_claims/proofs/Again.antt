@@ -107,7 +107,7 @@ filled es p q m v w d (fills_field n e c s) =
   where
     one : {A : Type 0} (f : Tree → Option (Option A)) (k n : ℕ) (es : List (Named × Tree)) (v : Tree) (old new : Option A) → (IsIn (key n) es → ⊥) → IsField f None (at k es) old
         → Choose (nat_eq k n) (f v ≡ Some new) (old ≡ new) → IsField f None (at k (es ++ (key n, v) ∷ [])) new
-    one f = entered is_name key (λ n m. refl) is_name_is f None
+    one f = entered is_name key (λ n m. refl) is_name_is (IsField f None)
 filled es p q m v w d (fills_rest c g) =
     subst (IsClaims (es ++ (m, v) ∷ [])) (sym g) (record {
       issuer = kept _ _ _ _ _ (old 1 refl) w.issuer;
