@@ -74,14 +74,10 @@ fn clone_plain(alloc: Global, recipient: &CoseRecipient) -> Result<CoseRecipient
     ensures { IfOk result
         (λ copy. recipient_view copy ≡ without_recipients (recipient_view recipient.now)) }
 {
-    let protected = recipient.protected.clone(alloc)?;
-    let unprotected = recipient.unprotected.clone(alloc)?;
-    let ciphertext = clone_bytes(alloc, &recipient.ciphertext)?;
-    let recipients = Vec::with_capacity(alloc, recipient.recipients.len())?;
     Ok(CoseRecipient {
-        protected,
-        unprotected,
-        ciphertext,
-        recipients,
+        protected: recipient.protected.clone(alloc)?,
+        unprotected: recipient.unprotected.clone(alloc)?,
+        ciphertext: clone_bytes(alloc, &recipient.ciphertext)?,
+        recipients: Vec::with_capacity(alloc, recipient.recipients.len())?,
     })
 }

@@ -61,20 +61,13 @@ fn take_parts(
         ≡ Some (view v))
         (λ e. CantWrite (parts_of recipient.old) e) }
 {
-    let CoseRecipient {
-        protected,
-        unprotected,
-        ciphertext,
-        recipients: _,
-    } = mem::replace(recipient, CoseRecipient::new(alloc));
-    let mut items = write_parts(
-        alloc,
-        Parts {
-            protected,
-            unprotected,
-            content: ciphertext,
-        },
-    )?;
+    let taken = mem::replace(recipient, CoseRecipient::new(alloc));
+    let parts = Parts {
+        protected: taken.protected,
+        unprotected: taken.unprotected,
+        content: taken.ciphertext,
+    };
+    let mut items = write_parts(alloc, parts)?;
     if inner.is_empty() {
         return Ok(Value::Array(items));
     }
