@@ -1,5 +1,6 @@
 -- An item that was read, or not.
-use Rattle.std.proofs.Common.{◌≡◌, ◌≢◌, ℕ, List, [], ◌++◌, Bool, false, IsTrue, MatchBool, Option, Some, None, Result, Ok, Err, IfOk, refl, sym, subst, ◌∙◌, append-nil}
+use Rattle.std.proofs.Common.{◌≡◌, ◌≢◌, ◌+◌, ◌^◌, ◌≤◌, ℕ, List, [], ◌++◌, length, Bool, false, IsTrue, MatchBool, Option, Some, None, Result, Ok, Err, IfOk, IfErr, inl, inr, refl, sym, ap, subst, ◌∙◌, append-nil, length-append, arith}
+use Rattle.std.specs.Prelude.{◌⊎◌}
 use Rattle.ciborium_ll.specs.Reading.{Moves}
 use Rattle.ciborium_value.specs.Tree.{Tree}
 use Rattle.ciborium.specs.declared.de.Error.{Error}
@@ -7,10 +8,12 @@ use Rattle.ciborium.specs.declared.de.Error.TheVariants as code
 use Rattle.ciborium.specs.Damage.{Damage}
 use Rattle.ciborium.specs.Front.{Reads}
 use Rattle.ciborium.specs.Items.{nesting}
-use Rattle.ciborium.specs.Reading.{FailsAt}
+use Rattle.ciborium.specs.Reading.{FailsAt, IsFar, SomeTaken}
 use Rattle.ciborium.proofs.Excludes.{excludes}
 use Rattle.cose_sift.specs.declared.items.Halt.{Halt}
-use Rattle.cose_sift.specs.Reading.{IsReadable}
+use Rattle.cose_sift.specs.declared.items.Halt.TheVariants as halt
+use Rattle.cose_sift.specs.declared.taking.Stop.TheVariants as stop
+use Rattle.cose_sift.specs.Reading.{IsReadable, Unread}
 use Rattle.cose_sift.specs.Walking.{IsOne}
 use Rattle.cose_sift.proofs.Readable.{spelled}
 
@@ -33,3 +36,14 @@ unread ends b o o' code.TooLong m l f all r = absurd (l refl)
 pub unread_says : {A B : Type 0} (b : List ℕ) (r : Result Bool Halt) → IfOk r (λ yes. (yes ≡ false) × A × B) → (A → B → IsReadable b → ⊥) → IfOk r (λ yes. MatchBool yes (IsReadable b) (IsReadable b → ⊥))
 unread_says b (Err e) h f = tt
 unread_says b (Ok x) h f = subst (λ z. MatchBool z (IsReadable b) (IsReadable b → ⊥)) (sym h.0) (f h.1 h.2)
+
+-- places that can't be counted are those of as many bytes
+far : (b : List ℕ) (new : Option (List ℕ)) (o o' : ℕ) → o ≡ 0 → Moves (Some b) new o o' (λ _. IsFar o') → 2 ^ 64 ≤ length b + 4096
+far b None o o' start m = absurd m.taken
+far b (Some rest) o o' start m = omega (arith, start, m.grown, m.has, ap length m.taken, length-append m.bytes rest)
+
+pub told : {E : Type 0} (b : List ℕ) (new : Option (List ℕ)) (o o' : ℕ) (e : Error E) (r : Result Bool Halt) → o ≡ 0 → SomeTaken (Some b) new o o' e
+    → IfErr r (λ h. ((e ≡ code.Memory) × (h ≡ halt.Decode stop.Memory)) ⊎ ((e ≡ code.TooLong) × (h ≡ halt.Decode stop.TooLong))) → IfErr r (Unread b)
+told b new o o' e (Ok x) start t says = tt
+told b new o o' e (Err h) start t (inl m) = inl m.1
+told b new o o' e (Err h) start t (inr m) = inr (m.1, far b new o o' start (subst (SomeTaken (Some b) new o o') m.0 t))

@@ -11,6 +11,7 @@ use Rattle.cose_sift.specs.declared.taking.Stop.TheVariants as stop
 use Rattle.cose_sift.specs.declared.taking.Taking.{Taking}
 use Rattle.cose_sift.specs.declared.sifting.Counts.{Counts}
 use Rattle.cose_sift.specs.declared.sifting.Options.{Options}
+use Rattle.cose_sift.specs.Reading.{IsUntold}
 use Rattle.cose_sift.specs.Sifting.{nothing, kept, dropped, Readably, IsUnreadable, Writes, HaltsAt, Halts}
 use Rattle.cose_sift.specs.Taking.{Held, IfKnown, ItemFails, IsPlace, failures_at, failures_after}
 use Rattle.cose_sift.specs.Untagging.{Content}
@@ -57,8 +58,9 @@ pub ran_halts : (o : Options) (old mid new : Seen) (w v u : Option (List ℕ)) (
 ran_halts o old mid new w v u c h r f at k n = record { mid = mid; written = v; counts = c; before = r.taken; why = halts_at o mid new v u h f at k n }
 
 pub ran_memory : (o : Options) (old mid new : Seen) (w v u : Option (List ℕ)) (c : Counts) (h : Halt) (x : List ℕ) → Ran o old mid w v c → Takes mid new (λ y. (y ≡ x) × IsOne y × length y ≤ o.max)
-    → ((h ≡ halt.Decode stop.Memory) × Keeps v u) ⊎ ((h ≡ halt.Write) × Readably o.untag x (AppendsFront v u)) → Halts o old new w u h
-ran_memory o old mid new w v u c h x r t (inl m) = ran_halts o old mid new w v u c h r (subst (ItemFails mid new) (sym m.0) tt) (subst (IsPlace mid new) (sym m.0) tt) m.1 (λ e. let k : halt.Decode stop.Memory ≡ halt.Decode stop.End = sym m.0 ∙ e in cc)
+    → (IsUntold h × Keeps v u) ⊎ ((h ≡ halt.Write) × Readably o.untag x (AppendsFront v u)) → Halts o old new w u h
+ran_memory o old mid new w v u c h x r t (inl (inl m, k)) = ran_halts o old mid new w v u c h r (subst (ItemFails mid new) (sym m) tt) (subst (IsPlace mid new) (sym m) tt) k (λ e. let k : halt.Decode stop.Memory ≡ halt.Decode stop.End = sym m ∙ e in cc)
+ran_memory o old mid new w v u c h x r t (inl (inr m, k)) = ran_halts o old mid new w v u c h r (subst (ItemFails mid new) (sym m) tt) (subst (IsPlace mid new) (sym m) tt) k (λ e. let k : halt.Decode stop.TooLong ≡ halt.Decode stop.End = sym m ∙ e in cc)
 ran_memory o old mid new w v u c h x r t (inr f) = record {
   mid = mid;
   written = v;
@@ -114,6 +116,7 @@ pub ended_failures : (A B : Counts → Type 0) (N : Type 0) (r : Result Counts H
 ended_failures A B N (Ok d) h m n is p q = is ∙ ap (λ z. failures_at z n) p.1
 ended_failures A B N (Err e) h m n is p q = is ∙ ap (λ z. failures_at z n) (sym q.0)
 
-pub passed_failures : (A B : Type 0) (h : Halt) (m n : ℕ) → m ≡ n → ((h ≡ halt.Decode stop.Memory) × A) ⊎ ((h ≡ halt.Write) × B) → m ≡ failures_at h n
-passed_failures A B h m n is (inl p) = is ∙ ap (λ z. failures_at z n) (sym p.0)
+pub passed_failures : (A B : Type 0) (h : Halt) (m n : ℕ) → m ≡ n → (IsUntold h × A) ⊎ ((h ≡ halt.Write) × B) → m ≡ failures_at h n
+passed_failures A B h m n is (inl (inl p, a)) = is ∙ ap (λ z. failures_at z n) (sym p)
+passed_failures A B h m n is (inl (inr p, a)) = is ∙ ap (λ z. failures_at z n) (sym p)
 passed_failures A B h m n is (inr p) = is ∙ ap (λ z. failures_at z n) (sym p.0)

@@ -4,6 +4,7 @@ ghost use Rattle.std.specs.Io.KnownBytes.{Keeps, Appends};
 ghost use Rattle.ciborium_ll.specs.Device.{AppendsFront};
 ghost use Rattle.ciborium_ll.specs.Views.{waiting_of, seen};
 ghost use Rattle.ciborium_ll.specs.Views.{left_of};
+ghost use Rattle.cose_sift.specs.Reading.{IsUntold};
 ghost use Rattle.cose_sift.specs.Sifting.{Readably, IsUnreadable, Writes, Halts};
 ghost use Rattle.cose_sift.specs.Taking.{IfKnown, failures_after};
 ghost use Rattle.cose_sift.specs.Walking.{IsOne};
@@ -84,7 +85,7 @@ fn pass<W: Write>(alloc: Global, untag: bool, item: &[u8], out: &mut W) -> Resul
         (Readably «untag» item.now (Appends (W.written out.old) (W.written out.new)))
         (IsUnreadable «untag» item.now × Keeps (W.written out.old) (W.written out.new))) }
     ensures err { IfErr result (λ h.
-        ((h ≡ halt.Decode stop.Memory) × Keeps (W.written out.old) (W.written out.new))
+        (IsUntold h × Keeps (W.written out.old) (W.written out.new))
         ⊎ ((h ≡ halt.Write)
         × Readably «untag» item.now (AppendsFront (W.written out.old) (W.written out.new)))) }
 {
