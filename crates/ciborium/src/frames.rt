@@ -75,6 +75,21 @@ pub enum Frame {
     Tag(u64, usize, Header, usize),
 }
 
+/// The memory of the levels that are open while an item is read, for the next item.
+#[derive(Drop)]
+pub struct Spare {
+    frames: Vec<Frame>,
+}
+
+impl Spare {
+    /// No memory yet.
+    pub fn new(alloc: Global) -> Spare {
+        Spare {
+            frames: Vec::new(alloc),
+        }
+    }
+}
+
 /// What became of a value that was handed to the innermost level.
 #[derive(Drop)]
 pub enum Handed {
@@ -269,7 +284,7 @@ fn push_leaf<R: Read>(
         }
         2 => {
             let length = decoder.head_length();
-            let bytes = read_string(alloc, decoder, false, length, at)?;
+            let bytes = read_string(alloc, decoder, length, at)?;
             let Ok(()) = list.items.push(Value::Bytes(bytes)) else {
                 return Err(Error::Memory);
             };
@@ -343,7 +358,7 @@ fn put_half_leaf<R: Read>(
         }
         2 => {
             let length = decoder.head_length();
-            let bytes = read_string(alloc, decoder, false, length, at)?;
+            let bytes = read_string(alloc, decoder, length, at)?;
             let Ok(()) = put_half::<R::Error>(list, Value::Bytes(bytes)) else {
                 return Err(Error::Memory);
             };
@@ -631,6 +646,7 @@ pub fn read_item<R: Read>(
     at: usize,
     limit: usize,
     exact: &mut Exactness,
+    spare: &mut Spare,
 ) -> Result<Value, Error<R::Error>>
     requires fresh { waiting_of decoder.old ≡ None }
     requires titled { (title : List ℕ) × Title title header }
@@ -641,11 +657,12 @@ pub fn read_item<R: Read>(
     ensures leaves { Leaves R.ends (OneAfterTitle header) result
         (seen R.Read decoder.old) (seen R.Read decoder.new) }
 {
-    let mut below: Vec<Frame> = Vec::new(alloc);
+    let below: &mut Vec<Frame> = &mut spare.frames;
+    below.clear();
     let mut top = Frame::Whole(at, header);
     let mut read: Option<Value> = None;
     'turns: loop {
-        match hand(alloc, &mut below, &mut top, &mut read, exact)? {
+        match hand(alloc, below, &mut top, &mut read, exact)? {
             Handed::Up => {}
             Handed::Done => match read {
                 Some(value) => return Ok(value),
@@ -655,12 +672,12 @@ pub fn read_item<R: Read>(
                 let part = fill(alloc, decoder, &mut top, exact)?;
                 match part {
                     None => {
-                        let whole = close(&mut below, &mut top);
+                        let whole = close(below, &mut top);
                         read = Some(whole);
                     }
                     Some(title) => {
                         begin(
-                            alloc, decoder, &mut below, &mut top, &mut read, title, limit, exact,
+                            alloc, decoder, below, &mut top, &mut read, title, limit, exact,
                         )?;
                     }
                 }
@@ -684,6 +701,7 @@ fn read_headed<R: Read>(
     decoder: &mut Decoder<R>,
     at: usize,
     limit: usize,
+    spare: &mut Spare,
 ) -> Result<Value, Error<R::Error>>
     requires fresh { waiting_of decoder.old ≡ None }
     requires titled { (title : List ℕ) × Title title (last_head decoder.old) }
@@ -696,12 +714,12 @@ fn read_headed<R: Read>(
 {
     if decoder.major() == 2 {
         let length = decoder.head_length();
-        let bytes = read_string(alloc, decoder, false, length, at)?;
+        let bytes = read_string(alloc, decoder, length, at)?;
         return Ok(Value::Bytes(bytes));
     }
     let header = decoder.head();
     let mut exact = Exactness { holds: false };
-    read_item(alloc, decoder, header, at, limit, &mut exact)
+    read_item(alloc, decoder, header, at, limit, &mut exact, spare)
 }
 
 /// The next item.
@@ -709,6 +727,7 @@ fn read_next<R: Read>(
     alloc: Global,
     decoder: &mut Decoder<R>,
     limit: usize,
+    spare: &mut Spare,
 ) -> Result<Value, Error<R::Error>>
     requires fresh { waiting_of decoder.old ≡ None }
     ensures ok { IfOk result (λ v. Takes (seen R.Read decoder.old) (seen R.Read decoder.new)
@@ -720,7 +739,7 @@ fn read_next<R: Read>(
 {
     let at = decoder.offset();
     next_head(decoder)?;
-    read_headed(alloc, decoder, at, limit)
+    read_headed(alloc, decoder, at, limit, spare)
 }
 
 /// The next four items, which an array under a tag of this number holds.
@@ -729,6 +748,7 @@ fn read_four<R: Read>(
     decoder: &mut Decoder<R>,
     n: u64,
     limit: usize,
+    spare: &mut Spare,
 ) -> Result<Front, Error<R::Error>>
     requires fresh { waiting_of decoder.old ≡ None }
     requires message { (n ≡ 17) ⊎ (n ≡ 18) }
@@ -740,10 +760,10 @@ fn read_four<R: Read>(
     ensures leaves { Leaves R.ends (FourOne limit) result
         (seen R.Read decoder.old) (seen R.Read decoder.new) }
 {
-    let first = read_next(alloc, decoder, limit)?;
-    let second = read_next(alloc, decoder, limit)?;
-    let third = read_next(alloc, decoder, limit)?;
-    let fourth = read_next(alloc, decoder, limit)?;
+    let first = read_next(alloc, decoder, limit, spare)?;
+    let second = read_next(alloc, decoder, limit, spare)?;
+    let third = read_next(alloc, decoder, limit, spare)?;
+    let fourth = read_next(alloc, decoder, limit, spare)?;
     Ok(Front::Four(n, first, second, third, fourth))
 }
 
@@ -781,6 +801,7 @@ fn read_tagged<R: Read>(
     decoder: &mut Decoder<R>,
     n: u64,
     limit: usize,
+    spare: &mut Spare,
 ) -> Result<Front, Error<R::Error>>
     requires fresh { waiting_of decoder.old ≡ None }
     requires two { 2 ≤ limit }
@@ -796,9 +817,9 @@ fn read_tagged<R: Read>(
     let at = decoder.offset();
     next_head(decoder)?;
     if is_four(decoder) {
-        return read_four(alloc, decoder, n, limit - 2);
+        return read_four(alloc, decoder, n, limit - 2, spare);
     }
-    let content = read_headed(alloc, decoder, at, limit - 1)?;
+    let content = read_headed(alloc, decoder, at, limit - 1, spare)?;
     let mut exact = Exactness { holds: false };
     let whole = tag_value(alloc, n, content, &mut exact)?;
     Ok(Front::Item(whole))
@@ -814,6 +835,7 @@ pub fn read_front<R: Read>(
     alloc: Global,
     decoder: &mut Decoder<R>,
     limit: usize,
+    spare: &mut Spare,
 ) -> Result<Front, Error<R::Error>>
     requires fresh { waiting_of decoder.old ≡ None }
     ensures ok { IfOk result (λ f. Takes (seen R.Read decoder.old) (seen R.Read decoder.new)
@@ -834,9 +856,9 @@ pub fn read_front<R: Read>(
     let at = decoder.offset();
     next_head(decoder)?;
     match message_tag(decoder, limit) {
-        Some(n) => read_tagged(alloc, decoder, n, limit),
+        Some(n) => read_tagged(alloc, decoder, n, limit, spare),
         None => {
-            let value = read_headed(alloc, decoder, at, limit)?;
+            let value = read_headed(alloc, decoder, at, limit, spare)?;
             Ok(Front::Item(value))
         }
     }

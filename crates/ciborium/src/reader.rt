@@ -71,7 +71,7 @@ pub fn read_leaf<R: Read>(
         },
         Header::Break => Err(Error::Semantic(None, Kind::Break)),
         Header::Bytes(length) => {
-            let bytes = read_string(alloc, decoder, false, length, at)?;
+            let bytes = read_string(alloc, decoder, length, at)?;
             Ok(Value::Bytes(bytes))
         }
         Header::Text(length) => {
