@@ -7,7 +7,7 @@ use Rattle.ciborium.proofs.Passing.{passed_on}
 use Rattle.ciborium.proofs.frames.read_item.Goals as goal
 
 pub turns-init : goal.turns-init
-turns-init g c = record { turn = turn_start c.args.limit c.args.at c.args.header (seen g.R.Read c.args.decoder.now) c.args.exact.now.holds _ c.new-below.ensures.items; failed = refl; kept = refl; fresh = c.requires.fresh }
+turns-init g c = record { turn = turn_start c.args.limit c.args.at c.args.header (seen g.R.Read c.args.decoder.now) c.args.exact.now.holds _ c.clear.ensures.items; failed = refl; kept = refl; fresh = c.requires.fresh }
 
 pub hand-requires : goal.hand-requires
 hand-requires g c = record { staged = turn_staged c.turns.invariant.turn c.requires.titled }
