@@ -24,7 +24,7 @@ ghost use Rattle.ciborium.specs.Frames.{IsHandedOver};
 ghost use Rattle.ciborium.specs.Exact.{encoded};
 ghost use Rattle.ciborium.specs.Frames.{IsKept, CloseGives, ReadExact, HandFails, AskEnds};
 ghost use Rattle.ciborium.specs.Frames.{AskGives, AskFails, Opening, BeginsItem, BeginFails};
-ghost use Rattle.ciborium.specs.Frames.{Holds, in_hand, rank, room_of, Falls, HalfIn};
+ghost use Rattle.ciborium.specs.Frames.{Holds, in_hand, rank, room_of, HalfIn};
 ghost use Rattle.ciborium.specs.Frames.{LeafPut, FillEnds, FillGives, FillHolds};
 ghost use Rattle.ciborium.specs.Front.{Reads, HoldsOne};
 ghost use Rattle.ciborium.specs.Fronts.{front_view, IsFour, IsMessage, FourDamage, FourOne};
@@ -32,8 +32,8 @@ ghost use Rattle.ciborium.specs.Fronts.{front_view, IsFour, IsMessage, FourDamag
 use crate::de::Error;
 use crate::exactness::Exactness;
 use crate::reader::{
-    ROOM, folded, is_leaf, is_leaf_head, is_low, length_of, next_part, read_leaf, reserved,
-    room_left, tagged_title,
+    ROOM, all_read, folded, is_leaf, is_leaf_head, is_low, length_of, next_part, read_leaf,
+    reserved, room_left, tagged_title,
 };
 use crate::strings::{next_head, read_string, read_text};
 use crate::value::{Integer, Value};
@@ -60,18 +60,15 @@ pub struct Entries {
     room: usize,
 }
 
-/// A level that is open. A tag, and the whole around all levels, hold the place and the header of
-/// the title after them.
+/// A level that is open.
 #[derive(Drop)]
 pub enum Frame {
-    /// The whole around all levels: one item, of this title.
-    Whole(usize, Header),
     /// An array.
     Items(Items),
     /// A map.
     Entries(Entries),
-    /// A tag of this number, over an item of that title, and the space that the item may reserve
-    /// of.
+    /// A tag of this number, over an item whose title has that place and that header, and the space
+    /// that the item may reserve of.
     Tag(u64, usize, Header, usize),
 }
 
@@ -88,17 +85,6 @@ impl Spare {
             frames: Vec::new(alloc),
         }
     }
-}
-
-/// What became of a value that was handed to the innermost level.
-#[derive(Drop)]
-pub enum Handed {
-    /// It was taken, or there was none.
-    Taken,
-    /// It was the content of a tag; the tag is handed on now in its place.
-    Up,
-    /// It is the whole, and is still at hand.
-    Done,
 }
 
 /// Puts a key, or the value of the last key, into the map.
@@ -124,76 +110,63 @@ fn put_half<E>(list: &mut Entries, half: Value) -> Result<(), Error<E>>
     Ok(())
 }
 
-/// Hands a value, if one was read, to the innermost level. If that is a tag the tag is whole, and
-/// the level around it is the innermost.
+/// Hands a value to the innermost level. A tag is whole then, and so may be an array: it is handed
+/// on in its place to the level around it. A tag that no level is around is given back.
 fn hand<E>(
     alloc: Global,
     below: &mut Vec<Frame>,
     top: &mut Frame,
-    read: &mut Option<Value>,
+    value: Value,
     exact: &mut Exactness,
-) -> Result<Handed, Error<E>>
-    requires staged { IsStaged (top.old ∷ reverse below.old.items) read.old }
-    ensures ok { IfOk result (IsHandedOver (top.old ∷ reverse below.old.items)
-        (top.new ∷ reverse below.new.items) read.old read.new
-        exact.old.holds exact.new.holds) }
-    ensures falls { IfOk result (Falls (rank below.old.items top.old read.old)
-        (rank below.new.items top.new read.new)) }
-    ensures err { IfErr result (HandFails (top.old ∷ reverse below.old.items) read.old) }
+) -> Result<Option<Value>, Error<E>>
+    requires staged { IsStaged (top.old ∷ reverse below.old.items) (Some value) }
+    ensures ok { IfOk result (λ read. IsHandedOver (top.old ∷ reverse below.old.items)
+        (top.new ∷ reverse below.new.items) value read exact.old.holds exact.new.holds) }
+    ensures falls { IfOk result (λ read. IfNone read
+        (rank below.new.items top.new ≤ 2 * length below.old.items)) }
+    ensures err { IfErr result (HandFails (top.old ∷ reverse below.old.items) value) }
     ensures quiet { IfErr result (λ e. (ends : E → Bool) (n : ℕ) → fault_failures ends e n ≡ n) }
     ensures far { IfErr result IsNotLong }
-    ensures some { OnErr result (read.old ≢ None) }
 {
-    let Some(value) = read.take() else {
-        return Ok(Handed::Taken);
-    };
-    match top {
-        Frame::Whole(_, _) => {
-            *read = Some(value);
-            Ok(Handed::Done)
-        }
-        Frame::Items(list) => {
-            let Ok(()) = list.items.push(value) else {
-                return Err(Error::Memory);
-            };
-            Ok(Handed::Taken)
-        }
-        Frame::Entries(list) => {
-            put_half(list, value)?;
-            Ok(Handed::Taken)
-        }
-        Frame::Tag(n, _, _, _) => {
-            let whole = tag_value(alloc, *n, value, exact)?;
-            *read = Some(whole);
-            match below.pop() {
-                Some(frame) => {
-                    *top = frame;
-                    Ok(Handed::Up)
+    let mut value = value;
+    'levels: loop {
+        match top {
+            Frame::Items(list) => {
+                let Ok(()) = list.items.push(value) else {
+                    return Err(Error::Memory);
+                };
+                if !all_read(list.count, list.items.len()) {
+                    return Ok(None);
                 }
-                None => unreachable!(),
+                match below.pop() {
+                    Some(frame) => value = closed(mem::replace(top, frame)),
+                    None => return Ok(None),
+                }
+            }
+            Frame::Entries(list) => {
+                put_half(list, value)?;
+                return Ok(None);
+            }
+            Frame::Tag(n, _, _, _) => {
+                value = tag_value(alloc, *n, value, exact)?;
+                match below.pop() {
+                    Some(frame) => *top = frame,
+                    None => return Ok(Some(value)),
+                }
             }
         }
     }
 }
 
-/// Closes the innermost level, an array or a map.
-fn close(below: &mut Vec<Frame>, top: &mut Frame) -> Value
-    requires closed { IsClosed (top.old ∷ reverse below.old.items) }
-    ensures value { CloseGives (top.old ∷ reverse below.old.items)
-        (top.new ∷ reverse below.new.items) result }
-    ensures falls { length below.new.items < length below.old.items }
+/// The value of an array or a map that is closed.
+fn closed(level: Frame) -> Value
+    requires { (fs : List Frame) × IsClosed (level ∷ fs) }
+    ensures { CloseGives level result }
 {
-    match below.pop() {
-        None => unreachable!(),
-        Some(frame) => {
-            let whole = mem::replace(top, frame);
-            match whole {
-                Frame::Items(list) => Value::Array(list.items),
-                Frame::Entries(list) => Value::Map(list.entries),
-                Frame::Whole(_, _) => unreachable!(),
-                Frame::Tag(_, _, _, _) => unreachable!(),
-            }
-        }
+    match level {
+        Frame::Items(list) => Value::Array(list.items),
+        Frame::Entries(list) => Value::Map(list.entries),
+        Frame::Tag(_, _, _, _) => unreachable!(),
     }
 }
 
@@ -478,14 +451,13 @@ fn fill<R: Read>(
         (FillGives top.old top.new r.1 r.0 (offset_of decoder.old)
         exact.old.holds exact.new.holds))) }
     ensures moved { IfOk result (λ o. IfSome o (λ _.
-        offset_of decoder.old + 1 ≤ offset_of decoder.new + in_hand None top.old)) }
+        offset_of decoder.old + 1 ≤ offset_of decoder.new + in_hand top.old)) }
     ensures err { IfErr result (AskFails R.ends top.old
         (seen R.Read decoder.old) (seen R.Read decoder.new)) }
     ensures leaves { Leaves R.ends (FillHolds top.old (offset_of decoder.old)) result
         (seen R.Read decoder.old) (seen R.Read decoder.new) }
 {
     match top {
-        Frame::Whole(at, header) => Ok(Some((*at, *header))),
         Frame::Items(list) => fill_items(alloc, decoder, list, exact),
         Frame::Entries(list) => fill_entries(alloc, decoder, list, exact),
         Frame::Tag(_, at, header, _) => Ok(Some((*at, *header))),
@@ -497,7 +469,6 @@ fn room_in(top: &Frame) -> usize
     ensures { result ≡ room_of top.now }
 {
     match top {
-        Frame::Whole(_, _) => ROOM,
         Frame::Items(list) => {
             room_left(
                 list.room,
@@ -523,16 +494,15 @@ fn room_in(top: &Frame) -> usize
 enum Opened {
     /// A level.
     Level(Frame),
-    /// No level: a leaf, by the tag of a bignum if there is one, and the place and header of its
-    /// title.
-    Leaf(Option<u64>, usize, Header),
+    /// No level: it is this value.
+    Leaf(Value),
 }
 
-/// What the item of a title opens, if so many levels are left.
+/// What the item of a title opens in this space, if so many levels are left.
 fn opening<R: Read>(
     alloc: Global,
     decoder: &mut Decoder<R>,
-    top: &Frame,
+    room: usize,
     at: usize,
     header: Header,
     left: usize,
@@ -541,7 +511,7 @@ fn opening<R: Read>(
     requires fresh { waiting_of decoder.old ≡ None }
     ensures ok { IfOk result (λ o. Takes (seen R.Read decoder.old) (seen R.Read decoder.new)
         (Opening header at (offset_of decoder.old) left exact.old.holds exact.new.holds o)) }
-    ensures room { IfOk result (Holds (room_of top.now)) }
+    ensures room { IfOk result (Holds room) }
     ensures err { IfErr result (NamesFaultAfterTitle R.ends header at
         (λ stop b f. Damage stop b left f) (seen R.Read decoder.old) (seen R.Read decoder.new)) }
     ensures leaves { Leaves R.ends (OneAfterTitle header) result
@@ -552,7 +522,6 @@ fn opening<R: Read>(
             if left == 0 {
                 return Err(Error::RecursionLimitExceeded);
             }
-            let room = room_in(top);
             let Ok(items) = Vec::with_capacity(alloc, reserved(count, room / 2)) else {
                 return Err(Error::Memory);
             };
@@ -562,7 +531,6 @@ fn opening<R: Read>(
             if left == 0 {
                 return Err(Error::RecursionLimitExceeded);
             }
-            let room = room_in(top);
             let Ok(entries) = Vec::with_capacity(alloc, reserved(count, room / 4)) else {
                 return Err(Error::Memory);
             };
@@ -581,59 +549,51 @@ fn opening<R: Read>(
                 return Err(Error::RecursionLimitExceeded);
             }
             if is_leaf(inner) {
-                return Ok(Opened::Leaf(Some(n), place, inner));
+                let content = read_leaf(alloc, decoder, inner, place)?;
+                let whole = tag_value(alloc, n, content, exact)?;
+                return Ok(Opened::Leaf(whole));
             }
-            Ok(Opened::Level(Frame::Tag(n, place, inner, room_in(top))))
+            Ok(Opened::Level(Frame::Tag(n, place, inner, room)))
         }
-        _ => Ok(Opened::Leaf(None, at, header)),
+        _ => {
+            let value = read_leaf(alloc, decoder, header, at)?;
+            Ok(Opened::Leaf(value))
+        }
     }
 }
 
-/// Begins the item of a title: opens its level, or reads its value.
+/// Begins the item of a title: opens its level, or gives its value.
 fn begin<R: Read>(
     alloc: Global,
     decoder: &mut Decoder<R>,
     below: &mut Vec<Frame>,
     top: &mut Frame,
-    read: &mut Option<Value>,
     title: (usize, Header),
     limit: usize,
     exact: &mut Exactness,
-) -> Result<(), Error<R::Error>>
+) -> Result<Option<Value>, Error<R::Error>>
     requires fresh { waiting_of decoder.old ≡ None }
-    requires empty { read.old ≡ None }
-    ensures ok { OnOk result (Takes (seen R.Read decoder.old) (seen R.Read decoder.new)
+    ensures ok { IfOk result (λ read. Takes (seen R.Read decoder.old) (seen R.Read decoder.new)
         (BeginsItem (top.old ∷ reverse below.old.items) (top.new ∷ reverse below.new.items) limit
-        title.1 title.0 (offset_of decoder.old) read.new exact.old.holds exact.new.holds)) }
-    ensures rises { OnOk result (rank below.new.items top.new read.new + 4 * offset_of decoder.old
-        ≤ 2 * length below.old.items + 2 + 4 * offset_of decoder.new) }
+        title.1 title.0 (offset_of decoder.old) read exact.old.holds exact.new.holds)) }
+    ensures rises { IfOk result (λ read. IfNone read
+        (rank below.new.items top.new + 4 * offset_of decoder.old
+        ≤ 2 * length below.old.items + 2 + 4 * offset_of decoder.new)) }
+    ensures same { IfOk result (λ read. IfSome read (λ _. below.new.items ≡ below.old.items)) }
     ensures err { IfErr result (BeginFails R.ends limit (top.old ∷ reverse below.old.items)
         title.1 title.0 (seen R.Read decoder.old) (seen R.Read decoder.new)) }
     ensures leaves { Leaves R.ends (OneAfterTitle title.1) result
         (seen R.Read decoder.old) (seen R.Read decoder.new) }
 {
-    let left = limit.saturating_sub(below.len());
-    match opening(alloc, decoder, top, title.0, title.1, left, exact)? {
+    let left = limit.saturating_sub(below.len()).saturating_sub(1);
+    match opening(alloc, decoder, room_in(top), title.0, title.1, left, exact)? {
         Opened::Level(frame) => {
             let Ok(()) = below.push(mem::replace(top, frame)) else {
                 return Err(Error::Memory);
             };
-            Ok(())
+            Ok(None)
         }
-        Opened::Leaf(tag, at, header) => {
-            let value = read_leaf(alloc, decoder, header, at)?;
-            match tag {
-                None => {
-                    *read = Some(value);
-                    Ok(())
-                }
-                Some(n) => {
-                    let whole = tag_value(alloc, n, value, exact)?;
-                    *read = Some(whole);
-                    Ok(())
-                }
-            }
-        }
+        Opened::Leaf(value) => Ok(Some(value)),
     }
 }
 
@@ -657,28 +617,29 @@ pub fn read_item<R: Read>(
     ensures leaves { Leaves R.ends (OneAfterTitle header) result
         (seen R.Read decoder.old) (seen R.Read decoder.new) }
 {
+    let mut top = match opening(alloc, decoder, ROOM, at, header, limit, exact)? {
+        Opened::Level(frame) => frame,
+        Opened::Leaf(value) => return Ok(value),
+    };
     let below: &mut Vec<Frame> = &mut spare.frames;
     below.clear();
-    let mut top = Frame::Whole(at, header);
-    let mut read: Option<Value> = None;
     'turns: loop {
-        match hand(alloc, below, &mut top, &mut read, exact)? {
-            Handed::Up => {}
-            Handed::Done => match read {
-                Some(value) => return Ok(value),
-                None => unreachable!(),
-            },
-            Handed::Taken => {
-                let part = fill(alloc, decoder, &mut top, exact)?;
-                match part {
-                    None => {
-                        let whole = close(below, &mut top);
-                        read = Some(whole);
+        let part = fill(alloc, decoder, &mut top, exact)?;
+        match part {
+            None => match below.pop() {
+                None => return Ok(closed(top)),
+                Some(frame) => {
+                    let level = closed(mem::replace(&mut top, frame));
+                    if let Some(whole) = hand(alloc, below, &mut top, level, exact)? {
+                        return Ok(whole);
                     }
-                    Some(title) => {
-                        begin(
-                            alloc, decoder, below, &mut top, &mut read, title, limit, exact,
-                        )?;
+                }
+            },
+            Some(title) => {
+                let read = begin(alloc, decoder, below, &mut top, title, limit, exact)?;
+                if let Some(value) = read {
+                    if let Some(whole) = hand(alloc, below, &mut top, value, exact)? {
+                        return Ok(whole);
                     }
                 }
             }

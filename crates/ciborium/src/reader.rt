@@ -145,7 +145,8 @@ pub fn is_over(value: &Value, number: u64, size: Option<usize>) -> bool
     }
 }
 
-fn all_read(count: Option<usize>, done: usize) -> bool
+/// Whether as many parts were read as a head claims.
+pub fn all_read(count: Option<usize>, done: usize) -> bool
     ensures { result ≡ is_full count done }
 {
     match count {
