@@ -1,4 +1,4 @@
-use Rattle.std.proofs.Common.{rules, refl, reverse, ◌∷◌, arith}
+use Rattle.std.proofs.Common.{rules, reverse, ◌∷◌, arith, None, Some}
 use Rattle.ciborium_ll.specs.Views.{seen}
 use Rattle.ciborium.proofs.TurnLemmas.{turn_start, first_exact, turn_staged, turn_half, turn_ended, turn_closed, turn_popped, turn_last, turn_begun, turn_handed, turn_done, turn_fails, begun_fails, turn_less, empty}
 use Rattle.ciborium.proofs.Halting.{some_then, some_taken, memory_of}
@@ -80,28 +80,28 @@ returns-in_err-read-in-Some-clause-leaves g c =
 
 pub hand-requires-in-Some-read : goal.hand-requires-in-Some-read
 hand-requires-in-Some-read g c =
-    let t = turn_begun c.fill.new.top c.in-Some.title.0 c.in-Some.title.1 (seen g.R.Read c.fill.new.decoder) (seen g.R.Read c.begin.new.decoder) (c.begin.new.top ∷ reverse c.begin.new.below.items) _ c.fill.new.exact.holds c.begin.new.exact.holds c.turns.invariant.turn (rw c.in-Some.is at c.in_ok-part.ensures.some) (rw c.in-Some-read.is at c.in_ok-read-in-Some.ensures.ok) in
+    let t = turn_begun c.fill.new.top c.in-Some.title.0 c.in-Some.title.1 (seen g.R.Read c.fill.new.decoder) (seen g.R.Read c.begin.new.decoder) (c.begin.new.top ∷ reverse c.begin.new.below.items) (Some c.in-Some-read.value) c.fill.new.exact.holds c.begin.new.exact.holds c.turns.invariant.turn (rw c.in-Some.is at c.in_ok-part.ensures.some) (rw c.in-Some-read.is at c.in_ok-read-in-Some.ensures.ok) in
     record { staged = turn_staged t c.requires.titled }
 
 pub returns-in_err-whole-in-Some-clause-err : goal.returns-in_err-whole-in-Some-clause-err
 returns-in_err-whole-in-Some-clause-err g c =
-    let t = turn_begun c.fill.new.top c.in-Some.title.0 c.in-Some.title.1 (seen g.R.Read c.fill.new.decoder) (seen g.R.Read c.begin.new.decoder) (c.begin.new.top ∷ reverse c.begin.new.below.items) _ c.fill.new.exact.holds c.begin.new.exact.holds c.turns.invariant.turn (rw c.in-Some.is at c.in_ok-part.ensures.some) (rw c.in-Some-read.is at c.in_ok-read-in-Some.ensures.ok) in
+    let t = turn_begun c.fill.new.top c.in-Some.title.0 c.in-Some.title.1 (seen g.R.Read c.fill.new.decoder) (seen g.R.Read c.begin.new.decoder) (c.begin.new.top ∷ reverse c.begin.new.below.items) (Some c.in-Some-read.value) c.fill.new.exact.holds c.begin.new.exact.holds c.turns.invariant.turn (rw c.in-Some.is at c.in_ok-part.ensures.some) (rw c.in-Some-read.is at c.in_ok-read-in-Some.ensures.ok) in
     passed_on _ _ c.from_residual-in_err-whole-in-Some.ensures.1 (turn_fails g.R.Read.ends (seen g.R.Read c.begin.new.decoder).offset _ t
     (λ b off s. c.in_err-whole-in-Some.ensures.err g.R.Read.ends c.args.limit c.args.at b (seen g.R.Read c.begin.new.decoder).left (seen g.R.Read c.begin.new.decoder).offset off s))
 
 pub returns-in_err-whole-in-Some-clause-leaves : goal.returns-in_err-whole-in-Some-clause-leaves
 returns-in_err-whole-in-Some-clause-leaves g c =
-    let t = turn_begun c.fill.new.top c.in-Some.title.0 c.in-Some.title.1 (seen g.R.Read c.fill.new.decoder) (seen g.R.Read c.begin.new.decoder) (c.begin.new.top ∷ reverse c.begin.new.below.items) _ c.fill.new.exact.holds c.begin.new.exact.holds c.turns.invariant.turn (rw c.in-Some.is at c.in_ok-part.ensures.some) (rw c.in-Some-read.is at c.in_ok-read-in-Some.ensures.ok) in
+    let t = turn_begun c.fill.new.top c.in-Some.title.0 c.in-Some.title.1 (seen g.R.Read c.fill.new.decoder) (seen g.R.Read c.begin.new.decoder) (c.begin.new.top ∷ reverse c.begin.new.below.items) (Some c.in-Some-read.value) c.fill.new.exact.holds c.begin.new.exact.holds c.turns.invariant.turn (rw c.in-Some.is at c.in_ok-part.ensures.some) (rw c.in-Some-read.is at c.in_ok-read-in-Some.ensures.ok) in
     record { stops = passed_on _ _ c.from_residual-in_err-whole-in-Some.ensures.1 (some_taken _ c.in_err-whole-in-Some.ensures.far t.taken); one = passed_on _ _ c.from_residual-in_err-whole-in-Some.ensures.1 (memory_of _ _ (turn_one t)); steady = search rules }
 
 pub returns-in-Some-3-clause-ok : goal.returns-in-Some-3-clause-ok
 returns-in-Some-3-clause-ok g c =
-    let t = turn_begun c.fill.new.top c.in-Some.title.0 c.in-Some.title.1 (seen g.R.Read c.fill.new.decoder) (seen g.R.Read c.begin.new.decoder) (c.begin.new.top ∷ reverse c.begin.new.below.items) _ c.fill.new.exact.holds c.begin.new.exact.holds c.turns.invariant.turn (rw c.in-Some.is at c.in_ok-part.ensures.some) (rw c.in-Some-read.is at c.in_ok-read-in-Some.ensures.ok) in
+    let t = turn_begun c.fill.new.top c.in-Some.title.0 c.in-Some.title.1 (seen g.R.Read c.fill.new.decoder) (seen g.R.Read c.begin.new.decoder) (c.begin.new.top ∷ reverse c.begin.new.below.items) (Some c.in-Some-read.value) c.fill.new.exact.holds c.begin.new.exact.holds c.turns.invariant.turn (rw c.in-Some.is at c.in_ok-part.ensures.some) (rw c.in-Some-read.is at c.in_ok-read-in-Some.ensures.ok) in
     turn_done (c.hand-in-Some-read.new.top ∷ reverse c.hand-in-Some-read.new.below.items) c.hand-in-Some-read.new.exact.holds c.in-Some-3.whole t (rw c.in-Some-3.is at c.in_ok-whole-in-Some.ensures.ok)
 
 pub turns-preserved-in_default-2 : goal.turns-preserved-in_default-2
 turns-preserved-in_default-2 g c =
-    let t = turn_begun c.fill.new.top c.in-Some.title.0 c.in-Some.title.1 (seen g.R.Read c.fill.new.decoder) (seen g.R.Read c.begin.new.decoder) (c.begin.new.top ∷ reverse c.begin.new.below.items) _ c.fill.new.exact.holds c.begin.new.exact.holds c.turns.invariant.turn (rw c.in-Some.is at c.in_ok-part.ensures.some) (rw c.in-Some-read.is at c.in_ok-read-in-Some.ensures.ok) in
+    let t = turn_begun c.fill.new.top c.in-Some.title.0 c.in-Some.title.1 (seen g.R.Read c.fill.new.decoder) (seen g.R.Read c.begin.new.decoder) (c.begin.new.top ∷ reverse c.begin.new.below.items) (Some c.in-Some-read.value) c.fill.new.exact.holds c.begin.new.exact.holds c.turns.invariant.turn (rw c.in-Some.is at c.in_ok-part.ensures.some) (rw c.in-Some-read.is at c.in_ok-read-in-Some.ensures.ok) in
     record {
       turn = turn_handed (c.hand-in-Some-read.new.top ∷ reverse c.hand-in-Some-read.new.below.items) c.hand-in-Some-read.new.exact.holds t (rw c.in_default-2.is at c.in_ok-whole-in-Some.ensures.ok);
       failed = search rules;
@@ -111,7 +111,7 @@ turns-preserved-in_default-2 g c =
 
 pub turns-preserved : goal.turns-preserved
 turns-preserved g c = record {
-  turn = turn_begun c.fill.new.top c.in-Some.title.0 c.in-Some.title.1 (seen g.R.Read c.fill.new.decoder) (seen g.R.Read c.begin.new.decoder) (c.begin.new.top ∷ reverse c.begin.new.below.items) _ c.fill.new.exact.holds c.begin.new.exact.holds c.turns.invariant.turn (rw c.in-Some.is at c.in_ok-part.ensures.some) (rw c.in_default-3.is at c.in_ok-read-in-Some.ensures.ok);
+  turn = turn_begun c.fill.new.top c.in-Some.title.0 c.in-Some.title.1 (seen g.R.Read c.fill.new.decoder) (seen g.R.Read c.begin.new.decoder) (c.begin.new.top ∷ reverse c.begin.new.below.items) None c.fill.new.exact.holds c.begin.new.exact.holds c.turns.invariant.turn (rw c.in-Some.is at c.in_ok-part.ensures.some) (rw c.in_default-read.is at c.in_ok-read-in-Some.ensures.ok);
   failed = search rules;
   kept = search rules;
   fresh = search rules;
