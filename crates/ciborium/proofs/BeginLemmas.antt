@@ -1,7 +1,6 @@
 -- The item of a title is begun.
 use Rattle.std.proofs.Common.{◌≡◌, ◌<◌, ◌+◌, ◌-◌, ◌^◌, inl, inr, ℕ, Bool, true, false, List, [], ◌∷◌, ◌++◌, length, Option, None, Some, refl, sym, ap, subst, ◌∙◌, arith, reverse}
 use Rattle.std.proofs.lemmas.List.{length-reverse}
-use Rattle.ciborium_ll.specs.Reading.{Moves}
 use Rattle.ciborium_ll.specs.Seen.{Seen, Takes}
 use Rattle.ciborium_ll.specs.declared.hdr.Header.{Header}
 use Rattle.ciborium_ll.specs.declared.hdr.Header.TheVariants.{Tag, Bytes, Array, Map}
@@ -14,7 +13,7 @@ use Rattle.ciborium.specs.declared.de.Error.{Error}
 use Rattle.ciborium.specs.declared.frames.Frame.{Frame}
 use Rattle.ciborium.specs.declared.frames.Frame.TheVariants as code
 use Rattle.ciborium.specs.declared.frames.Opened.TheVariants as opens
-use Rattle.ciborium.specs.Damage.{Fault, Damage, under_tag}
+use Rattle.ciborium.specs.Damage.{Damage, under_tag}
 use Rattle.ciborium.specs.Levels.{Level, Fits, of_array, of_map, of_open_array, of_open_map, of_tag, Within}
 use Rattle.ciborium.specs.Reading.{FailsAt, FailsAfterTitle, NamesFaultAfterTitle, IfKnown, IsFoldFault, ReadsAfterTitle, TagDamage, IsLeaf}
 use Rattle.ciborium.proofs.Words.{TaggedAfterTitle}

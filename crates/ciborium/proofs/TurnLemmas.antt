@@ -1,5 +1,5 @@
 -- The turns of the reader's loop.
-use Rattle.std.proofs.Common.{◌≡◌, ◌+◌, ◌-◌, ◌*◌, ◌^◌, ◌<◌, ◌≤◌, ◌&&◌, ℕ, Bool, true, false, List, [], ◌∷◌, ◌++◌, length, Option, None, Some, refl, sym, ap, subst, ◌∙◌, arith, append_assoc, length-append, reverse}
+use Rattle.std.proofs.Common.{◌≡◌, ◌+◌, ◌-◌, ◌^◌, ◌<◌, ◌&&◌, ℕ, Bool, true, false, List, [], ◌∷◌, ◌++◌, length, Option, None, Some, refl, sym, ap, subst, ◌∙◌, arith, append_assoc, length-append, reverse}
 use Rattle.std.specs.Io.KnownBytes.{Consumes}
 use Rattle.std.proofs.KnownBytes.{Consumes-trans}
 use Rattle.ciborium_ll.specs.Seen.{Seen, Takes}
@@ -13,19 +13,19 @@ use Rattle.ciborium.specs.declared.frames.Frame.TheVariants as code
 use Rattle.ciborium.specs.declared.frames.Opened.TheVariants as opens
 use Rattle.ciborium.specs.Damage.{Damage}
 use Rattle.ciborium.specs.Front.{Reads}
-use Rattle.ciborium.specs.Levels.{Within, IsChild, Titled}
+use Rattle.ciborium.specs.Levels.{Titled}
 use Rattle.ciborium.specs.Reading.{FailsAt, FailsAfterTitle, IfKnown, ReadsAfterTitle, NamesFault, NamesFaultAfterTitle}
-use Rattle.ciborium.specs.Exact.{Says, IsEncoded, encoded, TitleExact}
+use Rattle.ciborium.specs.Exact.{Says, IsEncoded, encoded}
 use Rattle.ciborium_value.specs.Tree.{Tree}
 use Rattle.ciborium_value.specs.Encoding.{enc}
-use Rattle.ciborium.proofs.ExactSteps.{says_as, says_and}
-use Rattle.ciborium.proofs.ToldLemmas.{told_step, longer, encoded_says}
-use Rattle.ciborium.specs.Frames.{IfAsked, InHand, Asks, CloseGives, ReadExact, in_hand, rank, opened, HasHalf, Stage, IsStaged, IsClosed, GoesUp, IsKept, HandFails, IsHandedOver, Opening, Faults, FillEnds, FillGives, HaveHalf, HalfIn, BeginsItem, BeginFails}
+use Rattle.ciborium.proofs.ExactSteps.{says_and}
+use Rattle.ciborium.proofs.ToldLemmas.{encoded_says}
+use Rattle.ciborium.specs.Frames.{IfAsked, InHand, Asks, CloseGives, ReadExact, opened, HasHalf, Stage, IsStaged, IsClosed, GoesUp, IsKept, HandFails, IsHandedOver, Opening, Faults, FillEnds, FillGives, HaveHalf, HalfIn, BeginsItem, BeginFails}
 use Rattle.ciborium_value.specs.Folding.{tagged}
 use Rattle.ciborium.specs.declared.frames.Entries.{Entries}
 use Rattle.ciborium.proofs.FrameLemmas.{last_pushed, handed_on, tag_up}
 use Rattle.ciborium.proofs.BeginLemmas.{first_begun, first_read, whole_read}
-use Rattle.ciborium.proofs.Taking.{fails_titled, takes_as, takes_then, takes_none}
+use Rattle.ciborium.proofs.Taking.{fails_titled, takes_as, takes_then}
 
 -- what is known of the flag at the title of the whole
 abbrev pub Starts : Bool → Bool → Header → List ℕ → Type 0
@@ -185,18 +185,6 @@ begun_fails {E} {limit} {h} {at} {old} {s₁} {u} {w} {top} {fs} top' ends place
     let r = subst (λ (z : ℕ). Titled limit (opened (top' ∷ fs)) k place at z ((title ++ t.bytes) ++ a.bytes)) (sym a.grown) q.1.0 in
     known_fails ends limit at s₃.offset title (t.bytes ++ a.bytes) old.left s₂.left e (Consumes-trans old.left s₁.left s₂.left t.bytes a.bytes t.taken a.taken)
     (subst (λ (z : List ℕ). Faults ends limit at z s₂.left s₃.offset e) (append_assoc title t.bytes a.bytes) (v at ((title ++ t.bytes) ++ a.bytes) off q.0 r))
-
--- a turn that takes a title falls
-hand_less : (f : Frame) (o₀ o₁ n m : ℕ) → o₀ ≤ o₁ → o₀ + 1 ≤ o₁ + in_hand f → n + 4 * o₁ ≤ 2 * m + 2 + 4 * 2 ^ 64 → n + 4 * o₀ < 2 * m + in_hand f + 4 * 2 ^ 64
-hand_less (code.Items l) o₀ o₁ n m a b c = omega arith
-hand_less (code.Entries l) o₀ o₁ n m a b c = omega arith
-hand_less (code.Tag k at h room) o₀ o₁ n m a b c = omega arith
-
-pub turn_less : (xs zs : List Frame) (f g : Frame) (o₀ o₁ o₂ : ℕ) → o₂ < 2 ^ 64 → o₀ ≤ o₁ → o₁ ≤ o₂ → o₀ + 1 ≤ o₁ + in_hand f → rank zs g + 4 * o₁ ≤ 2 * length xs + 2 + 4 * o₂
-    → 4 * (2 ^ 64 - o₂) + rank zs g < 4 * (2 ^ 64 - o₀) + rank xs f
-turn_less xs zs f g o₀ o₁ o₂ low grown grown' moved rises =
-    let h : (rank zs g + 4 * (2 ^ 64 - o₂)) + 4 * o₀ < 2 * length xs + in_hand f + 4 * 2 ^ 64 = hand_less f o₀ o₁ (rank zs g + 4 * (2 ^ 64 - o₂)) (length xs) grown moved (omega arith) in
-    omega arith
 
 -- what is read is read, whatever the flag
 pub behind_read : (h : Header) (limit : ℕ) (v : Tree) (u w : Bool) (old new : Seen) → Takes old new (ReadExact h limit v u w) → Takes old new (λ (b : List ℕ). ReadsAfterTitle h limit v b)

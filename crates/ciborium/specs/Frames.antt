@@ -1,5 +1,5 @@
 -- The frames of the reader, and what they stand for.
-use Rattle.std.specs.Prelude.{◌≡◌, ◌≢◌, ◌<◌, ◌≤◌, ◌⊎◌, ℕ, ◌+◌, ◌-◌, ◌*◌, ◌/◌, ◌^◌, ◌&&◌, min, List, [], ◌∷◌, ◌++◌, length, Bool, true, false, MatchBool, Option, Some, None}
+use Rattle.std.specs.Prelude.{◌≡◌, ◌≢◌, ◌<◌, ◌⊎◌, ℕ, ◌+◌, ◌-◌, ◌*◌, ◌/◌, ◌^◌, ◌&&◌, min, List, [], ◌∷◌, ◌++◌, length, Bool, true, false, MatchBool, Option, Some, None}
 use Rattle.std.specs.Vec.{vec_capacity}
 use Rattle.ciborium_ll.specs.Seen.{Seen, Takes}
 use Rattle.ciborium_ll.specs.declared.hdr.Header.{Header}
@@ -17,7 +17,7 @@ use Rattle.ciborium.specs.declared.frames.Opened.{Opened}
 use Rattle.ciborium.specs.declared.frames.Opened.TheVariants as opens
 use Rattle.ciborium.specs.Damage.{Damage}
 use Rattle.ciborium.specs.Front.{Reads, HoldsOne}
-use Rattle.ciborium.specs.Reading.{IfKnown, FailsAt, Closes, IsLeaf, OpensOver, ReadsAfterTitle}
+use Rattle.ciborium.specs.Reading.{IfKnown, FailsAt, Closes, OpensOver, ReadsAfterTitle}
 use Rattle.ciborium.specs.Exact.{Says, IsEncoded, encoded, LevelsExact, TitleExact, ItemExact}
 use Rattle.ciborium.specs.Levels.{Level, Within, Titled, Handing}
 

@@ -1,8 +1,8 @@
 //! Reads items over a list of the levels that are open.
-ghost use Rattle.std.specs.Prelude.{◌≡◌, ◌≢◌, ◌<◌, ◌≤◌, ◌+◌, ◌*◌, ◌∷◌, ◌++◌, ℕ, Bool, true};
+ghost use Rattle.std.specs.Prelude.{◌≡◌, ◌<◌, ◌≤◌, ◌+◌, ◌*◌, ◌∷◌, ◌++◌, ℕ, Bool, true};
 ghost use Rattle.std.specs.Prelude.{false, List, [], None, Some, reverse, length};
 ghost use Rattle.std.specs.Prelude.{IfOk, IfErr, OnOk, OnErr, IfSome, IfNone};
-ghost use Rattle.std.specs.Prelude.{MatchOption, MatchBool, IsTrue, IsFalse, ◌⊎◌, ◌^◌};
+ghost use Rattle.std.specs.Prelude.{IsTrue, IsFalse, ◌⊎◌, ◌^◌};
 ghost use Rattle.ciborium_ll.specs.Seen.{Takes};
 ghost use Rattle.ciborium_ll.specs.Title.{Title, IsShortest};
 ghost use Rattle.ciborium_ll.specs.declared.hdr.Header.TheVariants.{Tag, Array};
@@ -21,11 +21,10 @@ ghost use Rattle.ciborium.specs.Reading.{IsNoMemory, Leaves, OneAfterTitle, IfMe
 ghost use Rattle.ciborium.specs.Reading.{IfEnd};
 ghost use Rattle.ciborium.specs.Frames.{snoc, halves_of, HasHalf, IsStaged, IsClosed};
 ghost use Rattle.ciborium.specs.Frames.{IsHandedOver};
-ghost use Rattle.ciborium.specs.Exact.{encoded};
-ghost use Rattle.ciborium.specs.Frames.{IsKept, CloseGives, ReadExact, HandFails, AskEnds};
-ghost use Rattle.ciborium.specs.Frames.{AskGives, AskFails, Opening, BeginsItem, BeginFails};
+ghost use Rattle.ciborium.specs.Frames.{IsKept, CloseGives, ReadExact, HandFails};
+ghost use Rattle.ciborium.specs.Frames.{AskFails, Opening, BeginsItem, BeginFails};
 ghost use Rattle.ciborium.specs.Frames.{Holds, in_hand, rank, room_of, HalfIn};
-ghost use Rattle.ciborium.specs.Frames.{LeafPut, FillEnds, FillGives, FillHolds};
+ghost use Rattle.ciborium.specs.Frames.{FillEnds, FillGives, FillHolds};
 ghost use Rattle.ciborium.specs.Front.{Reads, HoldsOne};
 ghost use Rattle.ciborium.specs.Fronts.{front_view, IsFour, IsMessage, FourDamage, FourOne};
 

@@ -1,4 +1,3 @@
-use Rattle.std.proofs.Common.{sym}
 use Rattle.ciborium.proofs.FrameLemmas.{array_closed, map_closed}
 use Rattle.ciborium.proofs.frames.closed.Goals as goal
 

@@ -1,6 +1,6 @@
 use Rattle.std.proofs.Common.{rules, reverse, ◌∷◌, arith, None, Some}
 use Rattle.ciborium_ll.specs.Views.{seen}
-use Rattle.ciborium.proofs.TurnLemmas.{turn_start, first_exact, turn_staged, turn_half, turn_ended, turn_closed, turn_popped, turn_last, turn_begun, turn_handed, turn_done, turn_fails, begun_fails, turn_less, empty}
+use Rattle.ciborium.proofs.TurnLemmas.{turn_start, first_exact, turn_staged, turn_half, turn_ended, turn_closed, turn_popped, turn_last, turn_begun, turn_handed, turn_done, turn_fails, begun_fails, empty}
 use Rattle.ciborium.proofs.Halting.{some_then, some_taken, memory_of}
 use Rattle.ciborium.proofs.OneTurns.{turn_one, turn_fills, turn_begins}
 use Rattle.ciborium.proofs.Passing.{passed_on}
