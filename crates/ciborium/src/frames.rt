@@ -11,6 +11,7 @@ ghost use Rattle.ciborium_ll.specs.Views.{left_of};
 ghost use Rattle.ciborium_value.specs.View.{view};
 ghost use Rattle.ciborium.specs.declared.de.Error.TheVariants.{Memory};
 ghost use Rattle.ciborium.specs.declared.frames.Frame.TheVariants as code;
+ghost use Rattle.ciborium.specs.declared.frames.Opened.TheVariants as opens;
 ghost use Rattle.ciborium.specs.Damage.{Damage, TitleDamage};
 ghost use Rattle.ciborium.specs.Reading.{Steady, TakesSome, NamesFault, NamesFaultAfterTitle};
 ghost use Rattle.ciborium.specs.Reading.{Closes};
@@ -561,6 +562,27 @@ fn opening<R: Read>(
     }
 }
 
+/// What the item of a title opens around which no level is.
+fn open_first<R: Read>(
+    alloc: Global,
+    decoder: &mut Decoder<R>,
+    at: usize,
+    header: Header,
+    limit: usize,
+    exact: &mut Exactness,
+) -> Result<Opened, Error<R::Error>>
+    requires fresh { waiting_of decoder.old ≡ None }
+    ensures ok { IfOk result (λ o. Takes (seen R.Read decoder.old) (seen R.Read decoder.new)
+        (Opening header at (offset_of decoder.old) limit exact.old.holds exact.new.holds o)) }
+    ensures room { IfOk result (Holds 128) }
+    ensures err { IfErr result (NamesFaultAfterTitle R.ends header at
+        (λ stop b f. Damage stop b limit f) (seen R.Read decoder.old) (seen R.Read decoder.new)) }
+    ensures leaves { Leaves R.ends (OneAfterTitle header) result
+        (seen R.Read decoder.old) (seen R.Read decoder.new) }
+{
+    opening(alloc, decoder, ROOM, at, header, limit, exact)
+}
+
 /// Begins the item of a title: opens its level, or gives its value.
 fn begin<R: Read>(
     alloc: Global,
@@ -578,6 +600,8 @@ fn begin<R: Read>(
     ensures rises { IfOk result (λ read. IfNone read
         (rank below.new.items top.new + 4 * offset_of decoder.old
         ≤ 2 * length below.old.items + 2 + 4 * offset_of decoder.new)) }
+    ensures room { IfOk result (λ read. IfNone read
+        (Holds (room_of top.old) (opens.Level top.new))) }
     ensures same { IfOk result (λ read. IfSome read (λ _. below.new.items ≡ below.old.items)) }
     ensures err { IfErr result (BeginFails R.ends limit (top.old ∷ reverse below.old.items)
         title.1 title.0 (seen R.Read decoder.old) (seen R.Read decoder.new)) }
@@ -616,7 +640,7 @@ pub fn read_item<R: Read>(
     ensures leaves { Leaves R.ends (OneAfterTitle header) result
         (seen R.Read decoder.old) (seen R.Read decoder.new) }
 {
-    let mut top = match opening(alloc, decoder, ROOM, at, header, limit, exact)? {
+    let mut top = match open_first(alloc, decoder, at, header, limit, exact)? {
         Opened::Level(frame) => frame,
         Opened::Leaf(value) => return Ok(value),
     };

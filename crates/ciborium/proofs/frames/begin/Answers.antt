@@ -1,5 +1,9 @@
-use Rattle.std.proofs.Common.{rules, ◌≡◌, ◌-◌, length, arith}
+use Rattle.std.proofs.Common.{rules, ◌≡◌, ◌-◌, ℕ, length, arith, subst, sym}
 use Rattle.ciborium_ll.specs.Views.{seen}
+use Rattle.ciborium.specs.declared.frames.Frame.{Frame}
+use Rattle.ciborium.specs.declared.frames.Opened.{Opened}
+use Rattle.ciborium.specs.declared.frames.Opened.TheVariants as opens
+use Rattle.ciborium.specs.Frames.{Holds, room_of}
 use Rattle.ciborium.proofs.Taking.{takes_as}
 use Rattle.ciborium.proofs.BeginLemmas.{begin_fails, level_begun, leaf_begun}
 use Rattle.ciborium.proofs.OneTurns.{opened_behind}
@@ -16,6 +20,12 @@ returns-in-Ok-clause-ok g c =
     let same : c.saturating_sub-left.result ≡ c.args.limit - length c.args.below.now.items - 1 = omega (arith, c.len.ensures, c.saturating_sub.ensures, c.saturating_sub-left.ensures, c.args.below.now.ok.0) in
     rw c.replace.ensures.after (takes_as _ _ _ _ _ _ (rw c.in-Level.is at c.in_ok-frame.ensures.ok)
     (λ y i. level_begun c.args.limit c.saturating_sub-left.result c.args.title.0 _ c.args.title.1 c.in-Level.frame c.args.top.now c.args.below.now.items c.push.new.self.items c.args.exact.now.holds c.opening.new.exact.holds y same (rw c.replace.ensures.value at c.in-Ok.ensures.items) i))
+
+room_kept : (r : ℕ) (x f g : Frame) (o : Opened) → r ≡ room_of x → g ≡ f → o ≡ opens.Level f → Holds r o → Holds (room_of x) (opens.Level g)
+room_kept r x f g o e same is h = subst (λ (z : ℕ). Holds z (opens.Level g)) e (subst (λ (z : Frame). Holds r (opens.Level z)) (sym same) (subst (Holds r) is h))
+
+pub returns-in-Ok-clause-room : goal.returns-in-Ok-clause-room
+returns-in-Ok-clause-room g c = room_kept _ c.args.top.now c.in-Level.frame _ c.in_ok-frame.field-0 c.room_in.ensures c.replace.ensures.after c.in-Level.is c.in_ok-frame.ensures.room
 
 pub returns-in-Leaf-clause-ok : goal.returns-in-Leaf-clause-ok
 returns-in-Leaf-clause-ok g c =

@@ -8,10 +8,10 @@ use Rattle.ciborium.proofs.frames.read_item.Goals as goal
 
 pub returns-in-Leaf-clause-ok : goal.returns-in-Leaf-clause-ok
 returns-in-Leaf-clause-ok g c =
-    first_exact c.args.limit c.args.at c.args.header (seen g.R.Read c.args.decoder.now) (seen g.R.Read c.opening.new.decoder) c.args.exact.now.holds c.opening.new.exact.holds c.in-Leaf.value (rw c.in-Leaf.is at c.in_ok-frame.ensures.ok)
+    first_exact c.args.limit c.args.at c.args.header (seen g.R.Read c.args.decoder.now) (seen g.R.Read c.open_first.new.decoder) c.args.exact.now.holds c.open_first.new.exact.holds c.in-Leaf.value (rw c.in-Leaf.is at c.in_ok-frame.ensures.ok)
 
 pub turns-init : goal.turns-init
-turns-init g c = record { turn = turn_start c.args.limit c.args.at c.args.header (seen g.R.Read c.args.decoder.now) (seen g.R.Read c.opening.new.decoder) c.args.exact.now.holds c.opening.new.exact.holds _ _ c.clear.ensures.items (rw c.in-Level.is at c.in_ok-frame.ensures.ok); failed = search rules; kept = search rules; fresh = search rules }
+turns-init g c = record { turn = turn_start c.args.limit c.args.at c.args.header (seen g.R.Read c.args.decoder.now) (seen g.R.Read c.open_first.new.decoder) c.args.exact.now.holds c.open_first.new.exact.holds _ _ c.clear.ensures.items (rw c.in-Level.is at c.in_ok-frame.ensures.ok); failed = search rules; kept = search rules; fresh = search rules }
 
 pub fill-requires-clause-half : goal.fill-requires-clause-half
 fill-requires-clause-half g c = turn_half c.turns.invariant.turn c.requires.titled
