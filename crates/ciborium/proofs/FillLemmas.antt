@@ -18,7 +18,7 @@ use Rattle.ciborium.proofs.Once.{append_nil}
 use Rattle.ciborium.proofs.Taking.{takes_then}
 use Rattle.ciborium.proofs.LevelLemmas.{titled_fails}
 use Rattle.ciborium.proofs.FrameLemmas.{items_more, entries_more}
-use Rattle.ciborium.proofs.BeginLemmas.{plain_leaf}
+use Rattle.ciborium.proofs.BeginLemmas.{leaf_read}
 use Rattle.ciborium.proofs.TurnLemmas.{unasked, unasked_as, known_fails}
 
 stage_at : (k w : Bool) (limit : ℕ) (fs : List Frame) (read : Option Value) (from n m : ℕ) (b c : List ℕ) → n ≡ m → b ≡ c → Stage k w limit fs read from n b → Stage k w limit fs read from m c
@@ -66,11 +66,11 @@ fills_leaf f g g' h at v old mid mid' new u w w' t a leaf r puts = record {
   has = λ k limit from fs b s.
       let q = a.has k limit from fs (b ++ t.bytes) (filled f g old mid u w t k limit from fs b s) in
       let x : Stage k w' limit (g ∷ fs) (Some v) from ((mid.offset + length a.bytes) + length r.bytes) (((b ++ t.bytes) ++ a.bytes) ++ r.bytes) =
-      plain_leaf limit 0 at (mid.offset + length a.bytes) at h h (g ∷ fs) v (Some v) w' w' [] r.bytes refl (leaf, (refl, refl, refl, refl)) r.has k from ((b ++ t.bytes) ++ a.bytes) q.0 q.1 in
-      let y = puts w' fs k limit from ((mid.offset + length a.bytes) + length r.bytes) (((b ++ t.bytes) ++ a.bytes) ++ r.bytes) x in
+      (q.0, leaf_read h at (mid.offset + length a.bytes) (limit - length (opened (g ∷ fs))) w' v r.bytes leaf r.has k limit from (opened (g ∷ fs)) ((b ++ t.bytes) ++ a.bytes) refl q.1) in
+      let y = (puts w' fs).step k limit from ((mid.offset + length a.bytes) + length r.bytes) (((b ++ t.bytes) ++ a.bytes) ++ r.bytes) x in
       let e : (mid.offset + length a.bytes) + length r.bytes ≡ old.offset + length (t.bytes ++ (a.bytes ++ r.bytes)) = omega (arith, t.grown, length-append t.bytes (a.bytes ++ r.bytes), length-append a.bytes r.bytes) in
       stage_at k w' limit (g' ∷ fs) None from ((mid.offset + length a.bytes) + length r.bytes) (old.offset + length (t.bytes ++ (a.bytes ++ r.bytes))) (((b ++ t.bytes) ++ a.bytes) ++ r.bytes) (b ++ (t.bytes ++ (a.bytes ++ r.bytes))) e
-      (append_assoc (b ++ t.bytes) a.bytes r.bytes ∙ append_assoc b t.bytes (a.bytes ++ r.bytes)) y.1;
+      (append_assoc (b ++ t.bytes) a.bytes r.bytes ∙ append_assoc b t.bytes (a.bytes ++ r.bytes)) y;
   taken = Consumes-trans old.left mid.left new.left t.bytes (a.bytes ++ r.bytes) t.taken (Consumes-trans mid.left mid'.left new.left a.bytes r.bytes a.taken r.taken);
   grown = omega (arith, t.grown, a.grown, r.grown, length-append t.bytes (a.bytes ++ r.bytes), length-append a.bytes r.bytes);
 }

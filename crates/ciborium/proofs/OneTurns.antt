@@ -1,5 +1,5 @@
 -- Out of memory in a turn of the reader's loop, what was taken holds at most one item.
-use Rattle.std.proofs.Common.{◌≡◌, ◌≢◌, ◌+◌, ℕ, Bool, false, List, [], ◌∷◌, ◌++◌, length, Option, None, Some, Result, Ok, Err, IfErr, refl, sym, ap, subst, ◌∙◌, append_assoc}
+use Rattle.std.proofs.Common.{◌≡◌, ◌+◌, ℕ, Bool, false, List, ◌∷◌, ◌++◌, length, Option, None, Some, Result, Ok, Err, IfErr, refl, sym, ap, subst, ◌∙◌, append_assoc}
 use Rattle.ciborium_ll.specs.declared.hdr.Header.{Header}
 use Rattle.ciborium_ll.specs.Reading.{Moves}
 use Rattle.ciborium_ll.specs.Seen.{Seen, Takes}
@@ -23,7 +23,6 @@ use Rattle.ciborium.proofs.TurnLemmas.{Turn, Behind, unasked_as, unasked}
 
 -- a level that was opened
 begun_behind : (f : Frame) (h : Header) (now : ℕ) (w w' : Bool) (y : List ℕ) → IsBegun f h now w w' y → OneAfterTitle h y
-begun_behind (code.Whole at j) h now w w' y i = absurd i
 begun_behind (code.Items l) h now w w' y i = subst (OneAfterTitle h) (sym i.2) (none_behind h)
 begun_behind (code.Entries l) h now w w' y i = subst (OneAfterTitle h) (sym i.3) (none_behind h)
 begun_behind (code.Tag n at j room) h now w w' y i = λ title t. tag_one n title y (subst (Title title) i.0 t) (title_one y j i.2)
@@ -31,22 +30,11 @@ begun_behind (code.Tag n at j room) h now w w' y i = λ title t. tag_one n title
 pub opened_behind : (h : Header) (at now left : ℕ) (w w' : Bool) (f : Frame) (y : List ℕ) → Opening h at now left w w' (opens.Level f) y → OneAfterTitle h y
 opened_behind h at now left w w' f y i = begun_behind f h now w w' y i.1
 
--- a leaf, in its tag if it has one
-pub leaf_behind : (h j : Header) (at now left place : ℕ) (n : Option ℕ) (w w' : Bool) (x y : List ℕ) → Opening h at now left w w' (opens.Leaf n place j) x → OneAfterTitle j y → OneAfterTitle h (x ++ y)
-leaf_behind h j at now left place None w w' x y i one =
-    let e : x ≡ [] = i.1.2 in
-    subst (λ (z : List ℕ). OneAfterTitle h (z ++ y)) (sym e) (subst (λ (z : Header). OneAfterTitle z y) i.1.0 one)
-leaf_behind h j at now left place (Some n) w w' x y i one = λ title t. tag_one n title (x ++ y) (subst (Title title) i.1.0 t) (one x i.1.2)
-
 -- a value that was not handed over
-stage_one : (w : Bool) (limit : ℕ) (fs : List Frame) (read : Option Value) (from now : ℕ) (b : List ℕ) → read ≢ None → Stage false w limit fs read from now b → HoldsOne b
-stage_one w limit fs None from now b some s = absurd (some refl)
-stage_one w limit fs (Some v) from now b some s = handing_one limit (opened fs) (view v) b s.1
-
-pub turn_one : {limit : ℕ} {h : Header} {at : ℕ} {old new : Seen} {u w : Bool} {fs : List Frame} {read : Option Value} → read ≢ None → Turn limit h at old new u w fs read → Takes old new (OneAfterTitle h)
-turn_one {limit} {h} {at} {old} {new} {u} {w} {fs} {read} some t =
-    takes_as old.left new.left old.offset new.offset (Behind limit h at old new u w fs read) (OneAfterTitle h) t.taken
-    (λ y b title i. stage_one w limit fs read at new.offset (title ++ y) some (b false title i tt))
+pub turn_one : {limit : ℕ} {h : Header} {at : ℕ} {old new : Seen} {u w : Bool} {fs : List Frame} {v : Value} → Turn limit h at old new u w fs (Some v) → Takes old new (OneAfterTitle h)
+turn_one {limit} {h} {at} {old} {new} {u} {w} {fs} {v} t =
+    takes_as old.left new.left old.offset new.offset (Behind limit h at old new u w fs (Some v)) (OneAfterTitle h) t.taken
+    (λ y b title i. handing_one limit (opened fs) (view v) (title ++ y) (b false title i tt).1.0)
 
 -- a title in hand after these bytes
 abbrev Asked : Frame → Frame → Header → ℕ → ℕ → List ℕ → Type 0

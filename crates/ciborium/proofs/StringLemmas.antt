@@ -18,7 +18,7 @@ use Rattle.ciborium.specs.Reading.{Fails, FailsAt, FailsAfterTitle, EndPlace, Is
 use Rattle.ciborium.specs.Held.{IsEarned, IsEarnedSince}
 use Rattle.ciborium.proofs.Once.{append_nil}
 use Rattle.ciborium.proofs.ReadLemmas.{behind_as}
-use Rattle.ciborium.proofs.Taking.{fails_as, known_as, fails_behind, fails_titled, behind_title, takes_then}
+use Rattle.ciborium.proofs.Taking.{fails_as, known_as, fails_behind, fails_titled, behind_title, takes_as, takes_then}
 
 pub joined_append : (xs ys : List (List ℕ)) → joined (xs ++ ys) ≡ joined xs ++ joined ys
 joined_append [] ys = refl
@@ -215,6 +215,10 @@ title_some b (all.Float (width.Half n)) t = some_cons _ _ _ t.1
 title_some b (all.Float (width.Single n)) t = some_cons _ _ _ t.1
 title_some b (all.Float (width.Double n)) t = some_cons _ _ _ t.1
 title_some b all.Break t = some_cons _ _ _ t
+
+-- the title alone, of what was taken
+pub titled : (l₁ l₂ : Option (List ℕ)) (o₁ o₂ : ℕ) (h : Header) (S : List ℕ → Type 0) → Moves l₁ l₂ o₁ o₂ (λ (b : List ℕ). Title b h × S b) → Moves l₁ l₂ o₁ o₂ (λ (b : List ℕ). Title b h)
+titled l₁ l₂ o₁ o₂ h S t = takes_as l₁ l₂ o₁ o₂ _ _ t (λ x p. p.0)
 
 pub title_grows : (l₁ l₂ : Option (List ℕ)) (o₁ o₂ : ℕ) (h : Header) → Moves l₁ l₂ o₁ o₂ (λ (b : List ℕ). Title b h) → o₁ < o₂
 title_grows l₁ l₂ o₁ o₂ h t = let s = title_some t.bytes h t.has in let g = t.grown in omega arith

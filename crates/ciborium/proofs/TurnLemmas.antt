@@ -1,5 +1,5 @@
 -- The turns of the reader's loop.
-use Rattle.std.proofs.Common.{◌≡◌, ◌+◌, ◌-◌, ◌*◌, ◌^◌, ◌<◌, ◌≤◌, ◌&&◌, ℕ, Bool, true, false, List, [], ◌∷◌, ◌++◌, length, Option, None, Some, refl, sym, ap, subst, ◌∙◌, arith, append_assoc, length-append, reverse}
+use Rattle.std.proofs.Common.{◌≡◌, ◌+◌, ◌-◌, ◌^◌, ◌<◌, ◌&&◌, ℕ, Bool, true, false, List, [], ◌∷◌, ◌++◌, length, Option, None, Some, refl, sym, ap, subst, ◌∙◌, arith, append_assoc, length-append, reverse}
 use Rattle.std.specs.Io.KnownBytes.{Consumes}
 use Rattle.std.proofs.KnownBytes.{Consumes-trans}
 use Rattle.ciborium_ll.specs.Seen.{Seen, Takes}
@@ -10,19 +10,22 @@ use Rattle.ciborium_value.specs.View.{view}
 use Rattle.ciborium.specs.declared.de.Error.{Error}
 use Rattle.ciborium.specs.declared.frames.Frame.{Frame}
 use Rattle.ciborium.specs.declared.frames.Frame.TheVariants as code
-use Rattle.ciborium.specs.declared.frames.Handed.TheVariants as handed
+use Rattle.ciborium.specs.declared.frames.Opened.TheVariants as opens
 use Rattle.ciborium.specs.Damage.{Damage}
 use Rattle.ciborium.specs.Front.{Reads}
-use Rattle.ciborium.specs.Levels.{Within, IsChild, Titled}
+use Rattle.ciborium.specs.Levels.{Titled}
 use Rattle.ciborium.specs.Reading.{FailsAt, FailsAfterTitle, IfKnown, ReadsAfterTitle, NamesFault, NamesFaultAfterTitle}
-use Rattle.ciborium.specs.Exact.{Says, IsEncoded, encoded, TitleExact}
+use Rattle.ciborium.specs.Exact.{Says, IsEncoded, encoded}
 use Rattle.ciborium_value.specs.Tree.{Tree}
 use Rattle.ciborium_value.specs.Encoding.{enc}
-use Rattle.ciborium.proofs.ExactSteps.{says_as, says_and}
-use Rattle.ciborium.proofs.ToldLemmas.{told_step, longer, encoded_says}
-use Rattle.ciborium.specs.Frames.{IfAsked, InHand, Asks, CloseGives, ReadExact, in_hand, rank, opened, Stage, IsStaged, IsClosed, IsHandedOver, Faults, FillEnds, FillGives, EndsInWhole, HalfIn, BeginsItem, BeginFails}
-use Rattle.ciborium.proofs.Once.{append_nil}
-use Rattle.ciborium.proofs.Taking.{fails_titled, takes_as, takes_then, takes_none}
+use Rattle.ciborium.proofs.ExactSteps.{says_and}
+use Rattle.ciborium.proofs.ToldLemmas.{encoded_says}
+use Rattle.ciborium.specs.Frames.{IfAsked, InHand, Asks, CloseGives, ReadExact, opened, HasHalf, Stage, IsStaged, IsClosed, GoesUp, IsKept, HandFails, IsHandedOver, Opening, Faults, FillEnds, FillGives, HaveHalf, HalfIn, BeginsItem, BeginFails}
+use Rattle.ciborium_value.specs.Folding.{tagged}
+use Rattle.ciborium.specs.declared.frames.Entries.{Entries}
+use Rattle.ciborium.proofs.FrameLemmas.{last_pushed, handed_on, tag_up}
+use Rattle.ciborium.proofs.BeginLemmas.{first_begun, first_read, whole_read}
+use Rattle.ciborium.proofs.Taking.{fails_titled, takes_as, takes_then}
 
 -- what is known of the flag at the title of the whole
 abbrev pub Starts : Bool → Bool → Header → List ℕ → Type 0
@@ -39,75 +42,77 @@ pub record Turn (limit : ℕ) (h : Header) (at : ℕ) (old new : Seen) (u w : Bo
 -- if the flag is not asked for, any serves
 asks_as : (w w' : Bool) (limit : ℕ) (fs : List Frame) (from now : ℕ) (b : List ℕ) → Asks false w limit fs from now b → Asks false w' limit fs from now b
 asks_as w w' limit [] from now b p = p
-asks_as w w' limit (code.Whole at h ∷ fs) from now b p = (p.0, tt)
 asks_as w w' limit (code.Items l ∷ fs) from now b p = (p.0, tt)
 asks_as w w' limit (code.Entries l ∷ fs) from now b p = (p.0, tt)
 asks_as w w' limit (code.Tag n at h room ∷ fs) from now b p = (p.0, tt)
 
 pub unasked_as : (w w' : Bool) (limit : ℕ) (fs : List Frame) (read : Option Value) (from now : ℕ) (b : List ℕ) → Stage false w limit fs read from now b → Stage false w' limit fs read from now b
 unasked_as w w' limit fs None from now b p = (p.0, asks_as w w' limit fs from now b p.1)
-unasked_as w w' limit fs (Some v) from now b p = (p.0, p.1, tt)
+unasked_as w w' limit fs (Some v) from now b p = (p.0, (p.1.0, tt))
 
 pub unasked : (w : Bool) (limit : ℕ) (fs : List Frame) (read : Option Value) (from now : ℕ) (b : List ℕ) → Stage false w limit fs read from now b → Stage false false limit fs read from now b
 unasked w limit fs read from now b p = unasked_as w false limit fs read from now b p
 
-pub turn_start : (limit at : ℕ) (h : Header) (s : Seen) (u : Bool) (fs : List Frame) → fs ≡ [] → Turn limit h at s s u u (code.Whole at h ∷ reverse fs) None
-turn_start limit at h s u fs e = record {
-  taken = takes_none s.left s.offset (Behind limit h at s s u u (code.Whole at h ∷ reverse fs) None) (λ k title t flag. (
-    ap reverse e,
-    (
-      record {
-        before = [];
-        title = title;
-        within = subst (λ (z : List Frame). Within limit (opened (reverse z)) []) (sym e) refl;
-        child = subst (λ (z : List Frame). IsChild (opened (reverse z)) h) (sym e) (λ b r s. tt);
-        is_title = t;
-        place = λ q. subst (λ (z : List ℕ). at + length z ≡ s.offset) (sym (append_nil title)) q;
-        whole = sym (append_nil title);
-      },
-      told_step k u u (length title) (length (title ++ [])) ((title ≡ title_of h) × IsEncoded h) (TitleExact (opened (reverse fs)) h [] title) (longer title []) (λ l p. started u h title fs e p) flag,
-    ),
-  ));
+-- the outermost level is opened, or there is none
+pub turn_start : (limit at : ℕ) (h : Header) (old new : Seen) (u w : Bool) (f : Frame) (fs : List Frame) → fs ≡ [] → Takes old new (Opening h at old.offset limit u w (opens.Level f)) → Turn limit h at old new u w (f ∷ reverse fs) None
+turn_start limit at h old new u w f fs e t = record {
+  taken = record {
+    bytes = t.bytes;
+    has = λ k title i flag.
+        subst (λ (z : List Frame). Stage k w limit (f ∷ reverse z) None at new.offset (title ++ t.bytes)) (sym e)
+        (subst (λ (n : ℕ). Stage k w limit (f ∷ []) None at n (title ++ t.bytes)) (sym t.grown) (first_begun limit at old.offset h f k u w title t.bytes t.has i flag));
+    taken = t.taken;
+    grown = t.grown;
+  };
 }
-  where
-    started : (u : Bool) (h : Header) (title : List ℕ) (fs : List Frame) → fs ≡ [] → Says u ((title ≡ title_of h) × IsEncoded h) → Says u (TitleExact (opened (reverse fs)) h [] title)
-    started u h title fs e p =
-        subst (λ (z : List Frame). Says u (TitleExact (opened (reverse z)) h [] title)) (sym e)
-        (says_as u ((title ≡ title_of h) × IsEncoded h) (TitleExact [] h [] title) (λ x. ((tt, refl), x.0, x.1)) (λ x. (x.1, x.2)) p)
+
+pub first_exact : (limit at : ℕ) (h : Header) (old new : Seen) (u w : Bool) (v : Value) → Takes old new (Opening h at old.offset limit u w (opens.Leaf v)) → Takes old new (ReadExact h limit (view v) u w)
+first_exact limit at h old new u w v t = takes_as old.left new.left old.offset new.offset (Opening h at old.offset limit u w (opens.Leaf v)) _ t (λ y i title p. first_read h at old.offset limit u w v title y i p)
 
 -- there are bytes of the whole so far
 pub turn_staged : {limit : ℕ} {h : Header} {at : ℕ} {old new : Seen} {u w : Bool} {fs : List Frame} {read : Option Value} → Turn limit h at old new u w fs read → (title : List ℕ) × Title title h → IsStaged fs read
 turn_staged {limit} {h} {at} {old} {new} {u} {w} {fs} {read} t v = (limit, at, new.offset, v.0 ++ t.taken.bytes, unasked w limit fs read at new.offset (v.0 ++ t.taken.bytes) (t.taken.has false v.0 v.1 tt))
 
 -- the whole is read
-pub turn_done : {limit : ℕ} {h : Header} {at : ℕ} {old new : Seen} {u w : Bool} {fs : List Frame} {read : Option Value} (gs : List Frame) (read' : Option Value) (w' : Bool) (v : Value) → read' ≡ Some v → Turn limit h at old new u w fs read
-    → IsHandedOver fs gs read read' w w' handed.Done → Takes old new (ReadExact h limit (view v) u w')
-turn_done {limit} {h} {at} {old} {new} {u} {w} {fs} {read} gs read' w' v some t s = takes_as old.left new.left old.offset new.offset (Behind limit h at old new u w fs read) _ t.taken (λ y b title i.
-    let q = s false limit at new.offset (title ++ y) (b false title i tt) in
-    let e : Some v ≡ Some q.0 = sym some ∙ q.1 in
-    let f : q.0 ≡ v = cc in (
-      subst (λ (z : Value). Reads (title ++ y) limit (view z)) f q.2,
-      λ l says.
-          let p = s true limit at new.offset (title ++ y) (b true title i (λ m. says)) in
-          let g : Some v ≡ Some p.0 = sym some ∙ p.1 in
-          let j : p.0 ≡ v = cc in
-          subst (λ (z : Value). Says w' (title ++ y ≡ enc (view z))) j (p.3 l),
-    ))
+pub turn_done : {limit : ℕ} {h : Header} {at : ℕ} {old new : Seen} {u w : Bool} {fs : List Frame} {v : Value} (gs : List Frame) (w' : Bool) (x : Value) → Turn limit h at old new u w fs (Some v) → IsHandedOver fs gs v (Some x) w w' → Takes old new (ReadExact h limit (view x) u w')
+turn_done {limit} {h} {at} {old} {new} {u} {w} {fs} {v} gs w' x t s = takes_as old.left new.left old.offset new.offset (Behind limit h at old new u w fs (Some v)) _ t.taken (λ y b title i. (
+  (s.step false limit at new.offset (title ++ y) (b false title i tt)).0,
+  λ l says. (s.step true limit at new.offset (title ++ y) (b true title i (λ m. says))).1 l,
+))
 
-pub done_some : (fs gs : List Frame) (read read' : Option Value) (w w' : Bool) → read' ≡ None → IsStaged fs read → IsHandedOver fs gs read read' w w' handed.Done → ⊥
-done_some fs gs read read' w w' none (limit, from, now, b, p) s = let q = s false limit from now b (unasked_as false w limit fs read from now b p) in let e : None ≡ Some q.0 = sym none ∙ q.1 in cc
+-- a value in no level is the whole
+pub alone : (w : Bool) (v : Value) (gs : List Frame) → IsHandedOver [] gs v (Some v) w w
+alone w v gs = record { step = λ k limit from now b s. whole_read k w limit v b s.1 }
+
+-- a value that goes up
+pub staged_on : (old new : List Frame) (v u : Value) (w w' : Bool) → IsStaged old (Some v) → GoesUp old new v u w w' → IsStaged new (Some u)
+staged_on old new v u w w' (limit, from, now, b, s) up = (limit, from, now, b, unasked w' limit new (Some u) from now b (up.step false limit from now b (unasked_as false w limit old (Some v) from now b s)))
+
+pub fails_on : {E : Type 0} (old new : List Frame) (v u : Value) (w w' : Bool) (e : Error E) → GoesUp old new v u w w' → HandFails new u e → HandFails old v e
+fails_on old new v u w w' e up f ends limit from b left now off s = f ends limit from b left now off (unasked w' limit new (Some u) from now b (up.step false limit from now b (unasked_as false w limit old (Some v) from now b s)))
+
+pub staged_half : (f : Frame) (fs : List Frame) (v : Value) (l : Entries) → f ≡ code.Entries l → IsStaged (f ∷ fs) (Some v) → HasHalf l
+staged_half f fs v l e (limit, from, now, b, s) = (subst (λ (z : Frame). Stage false false limit (z ∷ fs) (Some v) from now b) e s).0.0
+
+-- no levels
+pub empty : (fs : List Frame) → length fs ≡ 0 → fs ≡ []
+empty [] e = refl
+empty (f ∷ fs) e = absurd (omega arith)
+
+-- the outermost level is a tag
+pub tag_last : (f : Frame) (xs gs : List Frame) (n at room : ℕ) (h : Header) (v u : Value) (w w' : Bool) → f ≡ code.Tag n at h room → xs ≡ [] → tagged n (view v) ≡ Some (view u) → IsKept n (view v) (view u) w w' → IsHandedOver (f ∷ reverse xs) gs v (Some u) w w'
+tag_last f xs gs n at room h v u w w' e none t kept =
+    subst (λ (z : Frame). IsHandedOver (z ∷ reverse xs) gs v (Some u) w w') (sym e)
+    (subst (λ (z : List Frame). IsHandedOver (code.Tag n at h room ∷ reverse z) gs v (Some u) w w') (sym none)
+    (handed_on (code.Tag n at h room ∷ []) [] gs v u (Some u) w w' w' (tag_up [] n at room h v u w w' t kept) (alone w' u gs)))
 
 -- a value was taken
-pub turn_taken : {limit : ℕ} {h : Header} {at : ℕ} {old new : Seen} {u w : Bool} {fs : List Frame} {read : Option Value} (gs : List Frame) (read' : Option Value) (w' : Bool) → Turn limit h at old new u w fs read → IsHandedOver fs gs read read' w w' handed.Taken → Turn limit h at old new u w' gs None
-turn_taken {limit} {h} {at} {old} {new} {u} {w} {fs} {read} gs read' w' t s =
-    record { taken = takes_as old.left new.left old.offset new.offset (Behind limit h at old new u w fs read) (Behind limit h at old new u w' gs None) t.taken (λ y b k title i f. (s k limit at new.offset (title ++ y) (b k title i f)).1) }
-
-pub taken_none : (fs gs : List Frame) (read read' : Option Value) (w w' : Bool) → IsStaged fs read → IsHandedOver fs gs read read' w w' handed.Taken → read' ≡ None
-taken_none fs gs read read' w w' (limit, from, now, b, p) s = (s false limit from now b (unasked_as false w limit fs read from now b p)).0
+pub turn_handed : {limit : ℕ} {h : Header} {at : ℕ} {old new : Seen} {u w : Bool} {fs : List Frame} {v : Value} (gs : List Frame) (w' : Bool) → Turn limit h at old new u w fs (Some v) → IsHandedOver fs gs v None w w' → Turn limit h at old new u w' gs None
+turn_handed {limit} {h} {at} {old} {new} {u} {w} {fs} {v} gs w' t s =
+    record { taken = takes_as old.left new.left old.offset new.offset (Behind limit h at old new u w fs (Some v)) (Behind limit h at old new u w' gs None) t.taken (λ y b k title i f. s.step k limit at new.offset (title ++ y) (b k title i f)) }
 
 -- half an entry is in a map
-rooted_half : (f : Frame) (fs : List Frame) → EndsInWhole (f ∷ fs) → HalfIn f
-rooted_half (code.Whole at h) fs r = tt
+pub rooted_half : (f : Frame) (fs : List Frame) → HaveHalf (f ∷ fs) → HalfIn f
 rooted_half (code.Items l) fs r = tt
 rooted_half (code.Entries l) fs r = r.0
 rooted_half (code.Tag n at h room) fs r = tt
@@ -120,12 +125,19 @@ pub turn_ended : {limit : ℕ} {h : Header} {at : ℕ} {old mid : Seen} {u w w' 
     → IsClosed (top' ∷ fs)
 turn_ended {limit} {h} {at} {old} {mid} {u} {w} {w'} {top} {fs} top' new t a v = (limit, (v.0 ++ t.taken.bytes) ++ a.bytes, a.has false limit at fs (v.0 ++ t.taken.bytes) (t.taken.has false v.0 v.1 tt))
 
-pub turn_closed : {limit : ℕ} {h : Header} {at : ℕ} {old mid : Seen} {u w : Bool} {top : Frame} {fs : List Frame} (top' : Frame) (new : Seen) (gs : List Frame) (v : Value) (w' : Bool) → Turn limit h at old mid u w (top ∷ fs) None
-    → Takes mid new (FillEnds top top' mid.offset w w') → CloseGives (top' ∷ fs) gs v → Turn limit h at old new u w' gs (Some v)
-turn_closed {limit} {h} {at} {old} {mid} {u} {w} {top} {fs} top' new gs v w' t a s = record {
-  taken = takes_then old.left mid.left new.left old.offset mid.offset new.offset (Behind limit h at old mid u w (top ∷ fs) None) (FillEnds top top' mid.offset w w') (Behind limit h at old new u w' gs (Some v)) t.taken a
-      (λ x y b e k title i f. subst (λ (z : List ℕ). Stage k w' limit gs (Some v) at new.offset z) (append_assoc title x y) (s k w' limit at new.offset ((title ++ x) ++ y) (e k limit at fs (title ++ x) (b k title i f))));
+pub turn_closed : {limit : ℕ} {h : Header} {at : ℕ} {old mid : Seen} {u w : Bool} {top : Frame} {fs : List Frame} (top' : Frame) (new : Seen) (v : Value) (w' : Bool) → Turn limit h at old mid u w (top ∷ fs) None
+    → Takes mid new (FillEnds top top' mid.offset w w') → CloseGives top' v → Turn limit h at old new u w' fs (Some v)
+turn_closed {limit} {h} {at} {old} {mid} {u} {w} {top} {fs} top' new v w' t a s = record {
+  taken = takes_then old.left mid.left new.left old.offset mid.offset new.offset (Behind limit h at old mid u w (top ∷ fs) None) (FillEnds top top' mid.offset w w') (Behind limit h at old new u w' fs (Some v)) t.taken a
+      (λ x y b e k title i f. subst (λ (z : List ℕ). Stage k w' limit fs (Some v) at new.offset z) (append_assoc title x y) (s k w' limit at new.offset fs ((title ++ x) ++ y) (e k limit at fs (title ++ x) (b k title i f))));
 }
+
+pub turn_popped : {limit : ℕ} {h : Header} {at : ℕ} {old new : Seen} {u w : Bool} {v : Value} (xs ys : List Frame) (x : Frame) → xs ≡ ys ++ x ∷ [] → Turn limit h at old new u w (reverse xs) (Some v) → Turn limit h at old new u w (x ∷ reverse ys) (Some v)
+turn_popped {limit} {h} {at} {old} {new} {u} {w} {v} xs ys x e t = subst (λ (z : List Frame). Turn limit h at old new u w z (Some v)) (last_pushed ys xs x e) t
+
+-- the outermost level is closed
+pub turn_last : {limit : ℕ} {h : Header} {at : ℕ} {old new : Seen} {u w : Bool} {v : Value} (xs : List Frame) → xs ≡ [] → Turn limit h at old new u w (reverse xs) (Some v) → Takes old new (ReadExact h limit (view v) u w)
+turn_last {limit} {h} {at} {old} {new} {u} {w} {v} xs e t = turn_done [] w v (subst (λ (z : List Frame). Turn limit h at old new u w (reverse z) (Some v)) e t) (alone w v [])
 
 -- the item of a title is begun
 pub turn_begun : {limit : ℕ} {h : Header} {at : ℕ} {old s₁ : Seen} {u w : Bool} {top : Frame} {fs : List Frame} (top' : Frame) (place : ℕ) (j : Header) (s₂ s₃ : Seen) (gs : List Frame) (read : Option Value) (w₂ w₃ : Bool) → Turn limit h at old s₁ u w (top ∷ fs) None
@@ -173,20 +185,6 @@ begun_fails {E} {limit} {h} {at} {old} {s₁} {u} {w} {top} {fs} top' ends place
     let r = subst (λ (z : ℕ). Titled limit (opened (top' ∷ fs)) k place at z ((title ++ t.bytes) ++ a.bytes)) (sym a.grown) q.1.0 in
     known_fails ends limit at s₃.offset title (t.bytes ++ a.bytes) old.left s₂.left e (Consumes-trans old.left s₁.left s₂.left t.bytes a.bytes t.taken a.taken)
     (subst (λ (z : List ℕ). Faults ends limit at z s₂.left s₃.offset e) (append_assoc title t.bytes a.bytes) (v at ((title ++ t.bytes) ++ a.bytes) off q.0 r))
-
--- a turn that takes a title falls
-hand_less : (f : Frame) (o₀ o₁ n m : ℕ) → o₀ ≤ o₁ → o₀ + 1 ≤ o₁ + in_hand None f → n + 4 * o₁ ≤ 2 * m + 2 + 4 * 2 ^ 64 → n + 4 * o₀ < 2 * m + in_hand None f + 4 * 2 ^ 64
-hand_less (code.Whole at h) o₀ o₁ n m a b c = omega arith
-hand_less (code.Items l) o₀ o₁ n m a b c = omega arith
-hand_less (code.Entries l) o₀ o₁ n m a b c = omega arith
-hand_less (code.Tag k at h room) o₀ o₁ n m a b c = omega arith
-
-pub turn_less : (xs ys zs : List Frame) (x f g : Frame) (read read' read'' : Option Value) (o₀ o₁ o₂ : ℕ) → read' ≡ None → o₂ < 2 ^ 64 → o₀ ≤ o₁ → o₁ ≤ o₂ → rank ys f read' ≤ rank xs x read → o₀ + 1 ≤ o₁ + in_hand None f
-    → rank zs g read'' + 4 * o₁ ≤ 2 * length ys + 2 + 4 * o₂ → 4 * (2 ^ 64 - o₂) + rank zs g read'' < 4 * (2 ^ 64 - o₀) + rank xs x read
-turn_less xs ys zs x f g read read' read'' o₀ o₁ o₂ none low grown grown' falls moved rises =
-    let r : rank ys f None ≤ rank xs x read = subst (λ (z : Option Value). rank ys f z ≤ rank xs x read) none falls in
-    let h : (rank zs g read'' + 4 * (2 ^ 64 - o₂)) + 4 * o₀ < 2 * length ys + in_hand None f + 4 * 2 ^ 64 = hand_less f o₀ o₁ (rank zs g read'' + 4 * (2 ^ 64 - o₂)) (length ys) grown moved (omega arith) in
-    omega arith
 
 -- what is read is read, whatever the flag
 pub behind_read : (h : Header) (limit : ℕ) (v : Tree) (u w : Bool) (old new : Seen) → Takes old new (ReadExact h limit v u w) → Takes old new (λ (b : List ℕ). ReadsAfterTitle h limit v b)

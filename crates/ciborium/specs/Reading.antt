@@ -11,8 +11,6 @@ use Rattle.ciborium_ll.specs.Title.{Title}
 use Rattle.ciborium_value.specs.declared.kind.Kind.TheVariants as kind
 use Rattle.ciborium.specs.declared.de.Error.{Error}
 use Rattle.ciborium.specs.declared.de.Error.TheVariants as code
-use Rattle.ciborium.specs.declared.strings.Part.{Part}
-use Rattle.ciborium.specs.declared.strings.Part.TheVariants as part
 use Rattle.ciborium_value.specs.Tree.{Tree, Trees}
 use Rattle.ciborium_value.specs.Folding.{IsTooNegative}
 use Rattle.ciborium_ll.specs.Framing.{Frame, joined}
@@ -195,13 +193,6 @@ IsLeaf (Bytes o) = Unit {0}
 IsLeaf (Text o) = Unit {0}
 IsLeaf (Array o) = ⊥
 IsLeaf (Map o) = ⊥
-
--- what a header is inside a string
-abbrev pub IsPart : Bool → Header → Part → Type 0
-IsPart text h part.Close = h ≡ Break
-IsPart text h part.Open = h ≡ string_head text None
-IsPart text h (part.Chunk n) = h ≡ string_head text (Some n)
-IsPart text h part.Other = (h ≢ Break) × ((o : Option ℕ) → h ≢ string_head text o)
 
 -- the bytes after a title of h
 abbrev pub ReadsAfterTitle : Header → ℕ → Tree → List ℕ → Type 0

@@ -1,8 +1,8 @@
 //! Reads items over a list of the levels that are open.
-ghost use Rattle.std.specs.Prelude.{◌≡◌, ◌≢◌, ◌<◌, ◌≤◌, ◌+◌, ◌*◌, ◌∷◌, ◌++◌, ℕ, Bool, true};
+ghost use Rattle.std.specs.Prelude.{◌≡◌, ◌<◌, ◌≤◌, ◌+◌, ◌*◌, ◌∷◌, ◌++◌, ℕ, Bool, true};
 ghost use Rattle.std.specs.Prelude.{false, List, [], None, Some, reverse, length};
 ghost use Rattle.std.specs.Prelude.{IfOk, IfErr, OnOk, OnErr, IfSome, IfNone};
-ghost use Rattle.std.specs.Prelude.{MatchOption, MatchBool, IsTrue, IsFalse, ◌⊎◌, ◌^◌};
+ghost use Rattle.std.specs.Prelude.{IsTrue, IsFalse, ◌⊎◌, ◌^◌};
 ghost use Rattle.ciborium_ll.specs.Seen.{Takes};
 ghost use Rattle.ciborium_ll.specs.Title.{Title, IsShortest};
 ghost use Rattle.ciborium_ll.specs.declared.hdr.Header.TheVariants.{Tag, Array};
@@ -11,6 +11,7 @@ ghost use Rattle.ciborium_ll.specs.Views.{left_of};
 ghost use Rattle.ciborium_value.specs.View.{view};
 ghost use Rattle.ciborium.specs.declared.de.Error.TheVariants.{Memory};
 ghost use Rattle.ciborium.specs.declared.frames.Frame.TheVariants as code;
+ghost use Rattle.ciborium.specs.declared.frames.Opened.TheVariants as opens;
 ghost use Rattle.ciborium.specs.Damage.{Damage, TitleDamage};
 ghost use Rattle.ciborium.specs.Reading.{Steady, TakesSome, NamesFault, NamesFaultAfterTitle};
 ghost use Rattle.ciborium.specs.Reading.{Closes};
@@ -21,19 +22,18 @@ ghost use Rattle.ciborium.specs.Reading.{IsNoMemory, Leaves, OneAfterTitle, IfMe
 ghost use Rattle.ciborium.specs.Reading.{IfEnd};
 ghost use Rattle.ciborium.specs.Frames.{snoc, halves_of, HasHalf, IsStaged, IsClosed};
 ghost use Rattle.ciborium.specs.Frames.{IsHandedOver};
-ghost use Rattle.ciborium.specs.Exact.{encoded};
-ghost use Rattle.ciborium.specs.Frames.{IsKept, CloseGives, ReadExact, HandFails, AskEnds};
-ghost use Rattle.ciborium.specs.Frames.{AskGives, AskFails, Opening, BeginsItem, BeginFails};
-ghost use Rattle.ciborium.specs.Frames.{Holds, in_hand, rank, room_of, Falls, HalfIn};
-ghost use Rattle.ciborium.specs.Frames.{LeafPut, FillEnds, FillGives, FillHolds};
+ghost use Rattle.ciborium.specs.Frames.{IsKept, CloseGives, ReadExact, HandFails};
+ghost use Rattle.ciborium.specs.Frames.{AskFails, Opening, BeginsItem, BeginFails};
+ghost use Rattle.ciborium.specs.Frames.{Holds, in_hand, rank, room_of, HalfIn};
+ghost use Rattle.ciborium.specs.Frames.{FillEnds, FillGives, FillHolds};
 ghost use Rattle.ciborium.specs.Front.{Reads, HoldsOne};
 ghost use Rattle.ciborium.specs.Fronts.{front_view, IsFour, IsMessage, FourDamage, FourOne};
 
 use crate::de::Error;
 use crate::exactness::Exactness;
 use crate::reader::{
-    ROOM, folded, is_leaf, is_leaf_head, is_low, length_of, next_part, read_leaf, reserved,
-    room_left, tagged_title,
+    ROOM, all_read, folded, is_leaf, is_leaf_head, is_low, length_of, next_part, read_leaf,
+    reserved, room_left, tagged_title,
 };
 use crate::strings::{next_head, read_string, read_text};
 use crate::value::{Integer, Value};
@@ -60,30 +60,31 @@ pub struct Entries {
     room: usize,
 }
 
-/// A level that is open. A tag, and the whole around all levels, hold the place and the header of
-/// the title after them.
+/// A level that is open.
 #[derive(Drop)]
 pub enum Frame {
-    /// The whole around all levels: one item, of this title.
-    Whole(usize, Header),
     /// An array.
     Items(Items),
     /// A map.
     Entries(Entries),
-    /// A tag of this number, over an item of that title, and the space that the item may reserve
-    /// of.
+    /// A tag of this number, over an item whose title has that place and that header, and the space
+    /// that the item may reserve of.
     Tag(u64, usize, Header, usize),
 }
 
-/// What became of a value that was handed to the innermost level.
+/// The memory of the levels that are open while an item is read, for the next item.
 #[derive(Drop)]
-pub enum Handed {
-    /// It was taken, or there was none.
-    Taken,
-    /// It was the content of a tag; the tag is handed on now in its place.
-    Up,
-    /// It is the whole, and is still at hand.
-    Done,
+pub struct Spare {
+    frames: Vec<Frame>,
+}
+
+impl Spare {
+    /// No memory yet.
+    pub fn new(alloc: Global) -> Spare {
+        Spare {
+            frames: Vec::new(alloc),
+        }
+    }
 }
 
 /// Puts a key, or the value of the last key, into the map.
@@ -109,76 +110,63 @@ fn put_half<E>(list: &mut Entries, half: Value) -> Result<(), Error<E>>
     Ok(())
 }
 
-/// Hands a value, if one was read, to the innermost level. If that is a tag the tag is whole, and
-/// the level around it is the innermost.
+/// Hands a value to the innermost level. A tag is whole then, and so may be an array: it is handed
+/// on in its place to the level around it. A tag that no level is around is given back.
 fn hand<E>(
     alloc: Global,
     below: &mut Vec<Frame>,
     top: &mut Frame,
-    read: &mut Option<Value>,
+    value: Value,
     exact: &mut Exactness,
-) -> Result<Handed, Error<E>>
-    requires staged { IsStaged (top.old ∷ reverse below.old.items) read.old }
-    ensures ok { IfOk result (IsHandedOver (top.old ∷ reverse below.old.items)
-        (top.new ∷ reverse below.new.items) read.old read.new
-        exact.old.holds exact.new.holds) }
-    ensures falls { IfOk result (Falls (rank below.old.items top.old read.old)
-        (rank below.new.items top.new read.new)) }
-    ensures err { IfErr result (HandFails (top.old ∷ reverse below.old.items) read.old) }
+) -> Result<Option<Value>, Error<E>>
+    requires staged { IsStaged (top.old ∷ reverse below.old.items) (Some value) }
+    ensures ok { IfOk result (λ read. IsHandedOver (top.old ∷ reverse below.old.items)
+        (top.new ∷ reverse below.new.items) value read exact.old.holds exact.new.holds) }
+    ensures falls { IfOk result (λ read. IfNone read
+        (rank below.new.items top.new ≤ 2 * length below.old.items)) }
+    ensures err { IfErr result (HandFails (top.old ∷ reverse below.old.items) value) }
     ensures quiet { IfErr result (λ e. (ends : E → Bool) (n : ℕ) → fault_failures ends e n ≡ n) }
     ensures far { IfErr result IsNotLong }
-    ensures some { OnErr result (read.old ≢ None) }
 {
-    let Some(value) = read.take() else {
-        return Ok(Handed::Taken);
-    };
-    match top {
-        Frame::Whole(_, _) => {
-            *read = Some(value);
-            Ok(Handed::Done)
-        }
-        Frame::Items(list) => {
-            let Ok(()) = list.items.push(value) else {
-                return Err(Error::Memory);
-            };
-            Ok(Handed::Taken)
-        }
-        Frame::Entries(list) => {
-            put_half(list, value)?;
-            Ok(Handed::Taken)
-        }
-        Frame::Tag(n, _, _, _) => {
-            let whole = tag_value(alloc, *n, value, exact)?;
-            *read = Some(whole);
-            match below.pop() {
-                Some(frame) => {
-                    *top = frame;
-                    Ok(Handed::Up)
+    let mut value = value;
+    'levels: loop {
+        match top {
+            Frame::Items(list) => {
+                let Ok(()) = list.items.push(value) else {
+                    return Err(Error::Memory);
+                };
+                if !all_read(list.count, list.items.len()) {
+                    return Ok(None);
                 }
-                None => unreachable!(),
+                match below.pop() {
+                    Some(frame) => value = closed(mem::replace(top, frame)),
+                    None => return Ok(None),
+                }
+            }
+            Frame::Entries(list) => {
+                put_half(list, value)?;
+                return Ok(None);
+            }
+            Frame::Tag(n, _, _, _) => {
+                value = tag_value(alloc, *n, value, exact)?;
+                match below.pop() {
+                    Some(frame) => *top = frame,
+                    None => return Ok(Some(value)),
+                }
             }
         }
     }
 }
 
-/// Closes the innermost level, an array or a map.
-fn close(below: &mut Vec<Frame>, top: &mut Frame) -> Value
-    requires closed { IsClosed (top.old ∷ reverse below.old.items) }
-    ensures value { CloseGives (top.old ∷ reverse below.old.items)
-        (top.new ∷ reverse below.new.items) result }
-    ensures falls { length below.new.items < length below.old.items }
+/// The value of an array or a map that is closed.
+fn closed(level: Frame) -> Value
+    requires { (fs : List Frame) × IsClosed (level ∷ fs) }
+    ensures { CloseGives level result }
 {
-    match below.pop() {
-        None => unreachable!(),
-        Some(frame) => {
-            let whole = mem::replace(top, frame);
-            match whole {
-                Frame::Items(list) => Value::Array(list.items),
-                Frame::Entries(list) => Value::Map(list.entries),
-                Frame::Whole(_, _) => unreachable!(),
-                Frame::Tag(_, _, _, _) => unreachable!(),
-            }
-        }
+    match level {
+        Frame::Items(list) => Value::Array(list.items),
+        Frame::Entries(list) => Value::Map(list.entries),
+        Frame::Tag(_, _, _, _) => unreachable!(),
     }
 }
 
@@ -269,7 +257,7 @@ fn push_leaf<R: Read>(
         }
         2 => {
             let length = decoder.head_length();
-            let bytes = read_string(alloc, decoder, false, length, at)?;
+            let bytes = read_string(alloc, decoder, length, at)?;
             let Ok(()) = list.items.push(Value::Bytes(bytes)) else {
                 return Err(Error::Memory);
             };
@@ -343,7 +331,7 @@ fn put_half_leaf<R: Read>(
         }
         2 => {
             let length = decoder.head_length();
-            let bytes = read_string(alloc, decoder, false, length, at)?;
+            let bytes = read_string(alloc, decoder, length, at)?;
             let Ok(()) = put_half::<R::Error>(list, Value::Bytes(bytes)) else {
                 return Err(Error::Memory);
             };
@@ -463,14 +451,13 @@ fn fill<R: Read>(
         (FillGives top.old top.new r.1 r.0 (offset_of decoder.old)
         exact.old.holds exact.new.holds))) }
     ensures moved { IfOk result (λ o. IfSome o (λ _.
-        offset_of decoder.old + 1 ≤ offset_of decoder.new + in_hand None top.old)) }
+        offset_of decoder.old + 1 ≤ offset_of decoder.new + in_hand top.old)) }
     ensures err { IfErr result (AskFails R.ends top.old
         (seen R.Read decoder.old) (seen R.Read decoder.new)) }
     ensures leaves { Leaves R.ends (FillHolds top.old (offset_of decoder.old)) result
         (seen R.Read decoder.old) (seen R.Read decoder.new) }
 {
     match top {
-        Frame::Whole(at, header) => Ok(Some((*at, *header))),
         Frame::Items(list) => fill_items(alloc, decoder, list, exact),
         Frame::Entries(list) => fill_entries(alloc, decoder, list, exact),
         Frame::Tag(_, at, header, _) => Ok(Some((*at, *header))),
@@ -482,7 +469,6 @@ fn room_in(top: &Frame) -> usize
     ensures { result ≡ room_of top.now }
 {
     match top {
-        Frame::Whole(_, _) => ROOM,
         Frame::Items(list) => {
             room_left(
                 list.room,
@@ -508,16 +494,15 @@ fn room_in(top: &Frame) -> usize
 enum Opened {
     /// A level.
     Level(Frame),
-    /// No level: a leaf, by the tag of a bignum if there is one, and the place and header of its
-    /// title.
-    Leaf(Option<u64>, usize, Header),
+    /// No level: it is this value.
+    Leaf(Value),
 }
 
-/// What the item of a title opens, if so many levels are left.
+/// What the item of a title opens in this space, if so many levels are left.
 fn opening<R: Read>(
     alloc: Global,
     decoder: &mut Decoder<R>,
-    top: &Frame,
+    room: usize,
     at: usize,
     header: Header,
     left: usize,
@@ -526,7 +511,7 @@ fn opening<R: Read>(
     requires fresh { waiting_of decoder.old ≡ None }
     ensures ok { IfOk result (λ o. Takes (seen R.Read decoder.old) (seen R.Read decoder.new)
         (Opening header at (offset_of decoder.old) left exact.old.holds exact.new.holds o)) }
-    ensures room { IfOk result (Holds (room_of top.now)) }
+    ensures room { IfOk result (Holds room) }
     ensures err { IfErr result (NamesFaultAfterTitle R.ends header at
         (λ stop b f. Damage stop b left f) (seen R.Read decoder.old) (seen R.Read decoder.new)) }
     ensures leaves { Leaves R.ends (OneAfterTitle header) result
@@ -537,7 +522,6 @@ fn opening<R: Read>(
             if left == 0 {
                 return Err(Error::RecursionLimitExceeded);
             }
-            let room = room_in(top);
             let Ok(items) = Vec::with_capacity(alloc, reserved(count, room / 2)) else {
                 return Err(Error::Memory);
             };
@@ -547,7 +531,6 @@ fn opening<R: Read>(
             if left == 0 {
                 return Err(Error::RecursionLimitExceeded);
             }
-            let room = room_in(top);
             let Ok(entries) = Vec::with_capacity(alloc, reserved(count, room / 4)) else {
                 return Err(Error::Memory);
             };
@@ -566,59 +549,74 @@ fn opening<R: Read>(
                 return Err(Error::RecursionLimitExceeded);
             }
             if is_leaf(inner) {
-                return Ok(Opened::Leaf(Some(n), place, inner));
+                let content = read_leaf(alloc, decoder, inner, place)?;
+                let whole = tag_value(alloc, n, content, exact)?;
+                return Ok(Opened::Leaf(whole));
             }
-            Ok(Opened::Level(Frame::Tag(n, place, inner, room_in(top))))
+            Ok(Opened::Level(Frame::Tag(n, place, inner, room)))
         }
-        _ => Ok(Opened::Leaf(None, at, header)),
+        _ => {
+            let value = read_leaf(alloc, decoder, header, at)?;
+            Ok(Opened::Leaf(value))
+        }
     }
 }
 
-/// Begins the item of a title: opens its level, or reads its value.
+/// What the item of a title opens around which no level is.
+fn open_first<R: Read>(
+    alloc: Global,
+    decoder: &mut Decoder<R>,
+    at: usize,
+    header: Header,
+    limit: usize,
+    exact: &mut Exactness,
+) -> Result<Opened, Error<R::Error>>
+    requires fresh { waiting_of decoder.old ≡ None }
+    ensures ok { IfOk result (λ o. Takes (seen R.Read decoder.old) (seen R.Read decoder.new)
+        (Opening header at (offset_of decoder.old) limit exact.old.holds exact.new.holds o)) }
+    ensures room { IfOk result (Holds 128) }
+    ensures err { IfErr result (NamesFaultAfterTitle R.ends header at
+        (λ stop b f. Damage stop b limit f) (seen R.Read decoder.old) (seen R.Read decoder.new)) }
+    ensures leaves { Leaves R.ends (OneAfterTitle header) result
+        (seen R.Read decoder.old) (seen R.Read decoder.new) }
+{
+    opening(alloc, decoder, ROOM, at, header, limit, exact)
+}
+
+/// Begins the item of a title: opens its level, or gives its value.
 fn begin<R: Read>(
     alloc: Global,
     decoder: &mut Decoder<R>,
     below: &mut Vec<Frame>,
     top: &mut Frame,
-    read: &mut Option<Value>,
     title: (usize, Header),
     limit: usize,
     exact: &mut Exactness,
-) -> Result<(), Error<R::Error>>
+) -> Result<Option<Value>, Error<R::Error>>
     requires fresh { waiting_of decoder.old ≡ None }
-    requires empty { read.old ≡ None }
-    ensures ok { OnOk result (Takes (seen R.Read decoder.old) (seen R.Read decoder.new)
+    ensures ok { IfOk result (λ read. Takes (seen R.Read decoder.old) (seen R.Read decoder.new)
         (BeginsItem (top.old ∷ reverse below.old.items) (top.new ∷ reverse below.new.items) limit
-        title.1 title.0 (offset_of decoder.old) read.new exact.old.holds exact.new.holds)) }
-    ensures rises { OnOk result (rank below.new.items top.new read.new + 4 * offset_of decoder.old
-        ≤ 2 * length below.old.items + 2 + 4 * offset_of decoder.new) }
+        title.1 title.0 (offset_of decoder.old) read exact.old.holds exact.new.holds)) }
+    ensures rises { IfOk result (λ read. IfNone read
+        (rank below.new.items top.new + 4 * offset_of decoder.old
+        ≤ 2 * length below.old.items + 2 + 4 * offset_of decoder.new)) }
+    ensures room { IfOk result (λ read. IfNone read
+        (Holds (room_of top.old) (opens.Level top.new))) }
+    ensures same { IfOk result (λ read. IfSome read (λ _. below.new.items ≡ below.old.items)) }
     ensures err { IfErr result (BeginFails R.ends limit (top.old ∷ reverse below.old.items)
         title.1 title.0 (seen R.Read decoder.old) (seen R.Read decoder.new)) }
     ensures leaves { Leaves R.ends (OneAfterTitle title.1) result
         (seen R.Read decoder.old) (seen R.Read decoder.new) }
 {
-    let left = limit.saturating_sub(below.len());
-    match opening(alloc, decoder, top, title.0, title.1, left, exact)? {
+    let left = limit.saturating_sub(below.len()).saturating_sub(1);
+    match opening(alloc, decoder, room_in(top), title.0, title.1, left, exact)? {
         Opened::Level(frame) => {
             let Ok(()) = below.push(mem::replace(top, frame)) else {
                 return Err(Error::Memory);
             };
-            Ok(())
+            Ok(None)
         }
-        Opened::Leaf(tag, at, header) => {
-            let value = read_leaf(alloc, decoder, header, at)?;
-            match tag {
-                None => {
-                    *read = Some(value);
-                    Ok(())
-                }
-                Some(n) => {
-                    let whole = tag_value(alloc, n, value, exact)?;
-                    *read = Some(whole);
-                    Ok(())
-                }
-            }
-        }
+        Opened::Leaf(value) => Ok(Some(value)),
     }
 }
 
@@ -631,6 +629,7 @@ pub fn read_item<R: Read>(
     at: usize,
     limit: usize,
     exact: &mut Exactness,
+    spare: &mut Spare,
 ) -> Result<Value, Error<R::Error>>
     requires fresh { waiting_of decoder.old ≡ None }
     requires titled { (title : List ℕ) × Title title header }
@@ -641,27 +640,29 @@ pub fn read_item<R: Read>(
     ensures leaves { Leaves R.ends (OneAfterTitle header) result
         (seen R.Read decoder.old) (seen R.Read decoder.new) }
 {
-    let mut below: Vec<Frame> = Vec::new(alloc);
-    let mut top = Frame::Whole(at, header);
-    let mut read: Option<Value> = None;
+    let mut top = match open_first(alloc, decoder, at, header, limit, exact)? {
+        Opened::Level(frame) => frame,
+        Opened::Leaf(value) => return Ok(value),
+    };
+    let below: &mut Vec<Frame> = &mut spare.frames;
+    below.clear();
     'turns: loop {
-        match hand(alloc, &mut below, &mut top, &mut read, exact)? {
-            Handed::Up => {}
-            Handed::Done => match read {
-                Some(value) => return Ok(value),
-                None => unreachable!(),
-            },
-            Handed::Taken => {
-                let part = fill(alloc, decoder, &mut top, exact)?;
-                match part {
-                    None => {
-                        let whole = close(&mut below, &mut top);
-                        read = Some(whole);
+        let part = fill(alloc, decoder, &mut top, exact)?;
+        match part {
+            None => match below.pop() {
+                None => return Ok(closed(top)),
+                Some(frame) => {
+                    let level = closed(mem::replace(&mut top, frame));
+                    if let Some(whole) = hand(alloc, below, &mut top, level, exact)? {
+                        return Ok(whole);
                     }
-                    Some(title) => {
-                        begin(
-                            alloc, decoder, &mut below, &mut top, &mut read, title, limit, exact,
-                        )?;
+                }
+            },
+            Some(title) => {
+                let read = begin(alloc, decoder, below, &mut top, title, limit, exact)?;
+                if let Some(value) = read {
+                    if let Some(whole) = hand(alloc, below, &mut top, value, exact)? {
+                        return Ok(whole);
                     }
                 }
             }
@@ -684,6 +685,7 @@ fn read_headed<R: Read>(
     decoder: &mut Decoder<R>,
     at: usize,
     limit: usize,
+    spare: &mut Spare,
 ) -> Result<Value, Error<R::Error>>
     requires fresh { waiting_of decoder.old ≡ None }
     requires titled { (title : List ℕ) × Title title (last_head decoder.old) }
@@ -696,12 +698,12 @@ fn read_headed<R: Read>(
 {
     if decoder.major() == 2 {
         let length = decoder.head_length();
-        let bytes = read_string(alloc, decoder, false, length, at)?;
+        let bytes = read_string(alloc, decoder, length, at)?;
         return Ok(Value::Bytes(bytes));
     }
     let header = decoder.head();
     let mut exact = Exactness { holds: false };
-    read_item(alloc, decoder, header, at, limit, &mut exact)
+    read_item(alloc, decoder, header, at, limit, &mut exact, spare)
 }
 
 /// The next item.
@@ -709,6 +711,7 @@ fn read_next<R: Read>(
     alloc: Global,
     decoder: &mut Decoder<R>,
     limit: usize,
+    spare: &mut Spare,
 ) -> Result<Value, Error<R::Error>>
     requires fresh { waiting_of decoder.old ≡ None }
     ensures ok { IfOk result (λ v. Takes (seen R.Read decoder.old) (seen R.Read decoder.new)
@@ -720,7 +723,7 @@ fn read_next<R: Read>(
 {
     let at = decoder.offset();
     next_head(decoder)?;
-    read_headed(alloc, decoder, at, limit)
+    read_headed(alloc, decoder, at, limit, spare)
 }
 
 /// The next four items, which an array under a tag of this number holds.
@@ -729,6 +732,7 @@ fn read_four<R: Read>(
     decoder: &mut Decoder<R>,
     n: u64,
     limit: usize,
+    spare: &mut Spare,
 ) -> Result<Front, Error<R::Error>>
     requires fresh { waiting_of decoder.old ≡ None }
     requires message { (n ≡ 17) ⊎ (n ≡ 18) }
@@ -740,10 +744,10 @@ fn read_four<R: Read>(
     ensures leaves { Leaves R.ends (FourOne limit) result
         (seen R.Read decoder.old) (seen R.Read decoder.new) }
 {
-    let first = read_next(alloc, decoder, limit)?;
-    let second = read_next(alloc, decoder, limit)?;
-    let third = read_next(alloc, decoder, limit)?;
-    let fourth = read_next(alloc, decoder, limit)?;
+    let first = read_next(alloc, decoder, limit, spare)?;
+    let second = read_next(alloc, decoder, limit, spare)?;
+    let third = read_next(alloc, decoder, limit, spare)?;
+    let fourth = read_next(alloc, decoder, limit, spare)?;
     Ok(Front::Four(n, first, second, third, fourth))
 }
 
@@ -781,6 +785,7 @@ fn read_tagged<R: Read>(
     decoder: &mut Decoder<R>,
     n: u64,
     limit: usize,
+    spare: &mut Spare,
 ) -> Result<Front, Error<R::Error>>
     requires fresh { waiting_of decoder.old ≡ None }
     requires two { 2 ≤ limit }
@@ -796,9 +801,9 @@ fn read_tagged<R: Read>(
     let at = decoder.offset();
     next_head(decoder)?;
     if is_four(decoder) {
-        return read_four(alloc, decoder, n, limit - 2);
+        return read_four(alloc, decoder, n, limit - 2, spare);
     }
-    let content = read_headed(alloc, decoder, at, limit - 1)?;
+    let content = read_headed(alloc, decoder, at, limit - 1, spare)?;
     let mut exact = Exactness { holds: false };
     let whole = tag_value(alloc, n, content, &mut exact)?;
     Ok(Front::Item(whole))
@@ -814,6 +819,7 @@ pub fn read_front<R: Read>(
     alloc: Global,
     decoder: &mut Decoder<R>,
     limit: usize,
+    spare: &mut Spare,
 ) -> Result<Front, Error<R::Error>>
     requires fresh { waiting_of decoder.old ≡ None }
     ensures ok { IfOk result (λ f. Takes (seen R.Read decoder.old) (seen R.Read decoder.new)
@@ -834,9 +840,9 @@ pub fn read_front<R: Read>(
     let at = decoder.offset();
     next_head(decoder)?;
     match message_tag(decoder, limit) {
-        Some(n) => read_tagged(alloc, decoder, n, limit),
+        Some(n) => read_tagged(alloc, decoder, n, limit, spare),
         None => {
-            let value = read_headed(alloc, decoder, at, limit)?;
+            let value = read_headed(alloc, decoder, at, limit, spare)?;
             Ok(Front::Item(value))
         }
     }

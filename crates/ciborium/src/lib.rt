@@ -21,7 +21,7 @@ mod typed;
 pub mod value;
 
 pub use crate::de::{from_reader, from_reader_with_buffer};
-pub use crate::frames::{Front, read_front};
+pub use crate::frames::{Front, Spare, read_front};
 pub use crate::ser::into_writer;
 pub use crate::value::Value;
 pub use ciborium_ll as ll;

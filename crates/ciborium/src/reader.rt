@@ -71,7 +71,7 @@ pub fn read_leaf<R: Read>(
         },
         Header::Break => Err(Error::Semantic(None, Kind::Break)),
         Header::Bytes(length) => {
-            let bytes = read_string(alloc, decoder, false, length, at)?;
+            let bytes = read_string(alloc, decoder, length, at)?;
             Ok(Value::Bytes(bytes))
         }
         Header::Text(length) => {
@@ -145,7 +145,8 @@ pub fn is_over(value: &Value, number: u64, size: Option<usize>) -> bool
     }
 }
 
-fn all_read(count: Option<usize>, done: usize) -> bool
+/// Whether as many parts were read as a head claims.
+pub fn all_read(count: Option<usize>, done: usize) -> bool
     ensures { result ≡ is_full count done }
 {
     match count {

@@ -1,23 +1,24 @@
 //! Reads titles and strings.
-ghost use Rattle.std.specs.Prelude.{◌≡◌, ◌≤◌, ◌<◌, ◌+◌, ◌++◌, ◌^◌, ℕ, None, Some, OnOk, OnErr};
-ghost use Rattle.std.specs.Prelude.{IsTrue, IsFalse};
-ghost use Rattle.std.specs.Prelude.{IfOk, IfErr, IfSome, IfNone, length, min, max, Bool, true, []};
+ghost use Rattle.std.specs.Prelude.{◌≡◌, ◌≢◌, ◌≤◌, ◌<◌, ◌+◌, ◌++◌, ◌^◌, ℕ, OnOk, OnErr};
+ghost use Rattle.std.specs.Prelude.{Option, None, Some, IsTrue, IsFalse};
+ghost use Rattle.std.specs.Prelude.{IfOk, IfErr, IfSome, IfNone, MatchBool, length, min, max};
+ghost use Rattle.std.specs.Prelude.{Bool, true, false, []};
 ghost use Rattle.std.specs.Prelude.{string_bytes};
 ghost use Rattle.std.specs.Str.{IsUtf8};
 ghost use Rattle.std.specs.String.{string_capacity};
 ghost use Rattle.std.specs.Vec.{vec_capacity};
 ghost use Rattle.ciborium_ll.specs.Title.{Title, title_of, IsShortest};
 ghost use Rattle.ciborium_ll.specs.declared.hdr.Header.{Header};
-ghost use Rattle.ciborium_ll.specs.declared.hdr.Header.TheVariants.{Text};
+ghost use Rattle.ciborium_ll.specs.declared.hdr.Header.TheVariants.{Bytes, Text};
 ghost use Rattle.ciborium_ll.specs.Seen.{Takes};
 ghost use Rattle.ciborium_ll.specs.Views.{left_of, offset_of, waiting_of};
-ghost use Rattle.ciborium_ll.specs.Views.{reader_of, seen, shortest_of, last_head};
+ghost use Rattle.ciborium_ll.specs.Views.{reader_of, seen, shortest_of, last_head, last_length};
 ghost use Rattle.ciborium.specs.Damage.{TitleDamage, ChunkDamage, StringDamage};
 ghost use Rattle.ciborium.specs.Held.{IsEarned, IsEarnedSince, IsFitting, UnlessMemory};
 ghost use Rattle.ciborium.specs.Reading.{NamesFault, NamesFaultAfterTitle, NamesShort};
 ghost use Rattle.ciborium.specs.Reading.{Steady, TakesSome, IsNoMemory, IfEnd};
 ghost use Rattle.ciborium.specs.Reading.{Leaves, OneAfterTitle};
-ghost use Rattle.ciborium.specs.Reading.{string_head, IsBody, StringAfterHead, ChunkBody, IsPart};
+ghost use Rattle.ciborium.specs.Reading.{string_head, IsBody, StringAfterHead, ChunkBody};
 
 use crate::de::Error;
 use ciborium_ll::{Decoder, Header, Read};
@@ -244,8 +245,6 @@ fn read_chunk<R: Read>(
         (λ b. ChunkBody text n into.old.items into.new.items b)) }
     ensures held { UnlessMemory result (IsEarnedSince (length into.old.items)
         (offset_of decoder.old) (offset_of decoder.new) (vec_capacity into.new)) }
-    ensures alone { into.old.items ≡ [] → UnlessMemory result
-        (vec_capacity into.new ≤ max (vec_capacity into.old) n) }
     ensures err { IfErr result (NamesFaultAfterTitle R.ends (string_head text (Some n)) at
         (ChunkDamage (string_head text) (IsBody text))
         (seen R.Read decoder.old) (seen R.Read decoder.new)) }
@@ -260,76 +259,69 @@ fn read_chunk<R: Read>(
     Ok(())
 }
 
-/// What a header is inside an open string.
-pub enum Part {
-    /// The break.
-    Close,
-    /// An open string of the same kind.
-    Open,
-    /// A string of the same kind, of this length.
-    Chunk(usize),
-    /// Anything else.
-    Other,
-}
-
-fn part_of(text: bool, header: Header) -> Part
-    ensures { IsPart text header result }
+/// Whether the head that was read is one of a string of this kind.
+fn is_string<R: Read>(decoder: &Decoder<R>, text: bool) -> bool
+    ensures { MatchBool result (last_head decoder.now ≡ string_head text (last_length decoder.now))
+        ((o : Option ℕ) → last_head decoder.now ≢ string_head text o) }
 {
-    match header {
-        Header::Break => Part::Close,
-        Header::Bytes(length) => {
-            if text {
-                Part::Other
-            } else {
-                sized_part(length)
-            }
-        }
-        Header::Text(length) => {
-            if text {
-                sized_part(length)
-            } else {
-                Part::Other
-            }
-        }
-        _ => Part::Other,
+    if text {
+        decoder.major() == 3
+    } else {
+        decoder.major() == 2
     }
 }
 
-fn sized_part(length: Option<usize>) -> Part
-    ensures { (text : Bool) → IsPart text (string_head text length) result }
+/// The bytes of a string of this length, in their own size. A short one comes in one piece.
+fn read_sized<R: Read>(
+    alloc: Global,
+    decoder: &mut Decoder<R>,
+    n: usize,
+) -> Result<Vec<u8>, Error<R::Error>>
+    requires fresh { waiting_of decoder.old ≡ None }
+    ensures ok { IfOk result (λ v. Takes (seen R.Read decoder.old) (seen R.Read decoder.new)
+        (λ b. (length b ≡ n) × (v.items ≡ b))) }
+    ensures held { IfOk result (λ v. vec_capacity v ≤ n) }
+    ensures err { IfErr result (NamesShort R.ends n
+        (seen R.Read decoder.old) (seen R.Read decoder.new)) }
+    ensures leaves { Leaves R.ends (λ b. length b ≤ n) result
+        (seen R.Read decoder.old) (seen R.Read decoder.new) }
 {
-    match length {
-        Some(n) => Part::Chunk(n),
-        None => Part::Open,
+    if n > PIECE {
+        let mut bytes = Vec::new(alloc);
+        read_bytes(decoder, n, &mut bytes)?;
+        return Ok(bytes);
     }
+    let Ok(mut bytes) = Vec::with_capacity(alloc, n) else {
+        return Err(Error::Memory);
+    };
+    read_piece(decoder, n, &mut bytes)?;
+    Ok(bytes)
 }
 
-/// The bytes of a string whose title, with the length given, begins at the place `at`.
+/// The bytes of a byte string whose title, with the length given, begins at the place `at`.
 pub fn read_string<R: Read>(
     alloc: Global,
     decoder: &mut Decoder<R>,
-    text: bool,
     length: Option<usize>,
     at: usize,
 ) -> Result<Vec<u8>, Error<R::Error>>
     requires fresh { waiting_of decoder.old ≡ None }
     ensures ok { IfOk result (λ v. Takes (seen R.Read decoder.old) (seen R.Read decoder.new)
-        (λ b. StringAfterHead text length v.items b)) }
+        (λ b. StringAfterHead false length v.items b)) }
     ensures held { IfOk result (λ v. IsFitting length v.items (vec_capacity v)) }
-    ensures err { IfErr result (NamesFaultAfterTitle R.ends (string_head text length) at
-        (StringDamage (string_head text) (IsBody text))
-        (seen R.Read decoder.old) (seen R.Read decoder.new)) }
-    ensures leaves { Leaves R.ends (OneAfterTitle (string_head text length)) result
+    ensures err { IfErr result (NamesFaultAfterTitle R.ends (Bytes length) at
+        (StringDamage Bytes (IsBody false)) (seen R.Read decoder.old) (seen R.Read decoder.new)) }
+    ensures leaves { Leaves R.ends (OneAfterTitle (Bytes length)) result
         (seen R.Read decoder.old) (seen R.Read decoder.new) }
 {
-    let mut bytes = Vec::new(alloc);
     match length {
         Some(n) => {
-            read_chunk(decoder, text, n, at, &mut bytes)?;
+            let bytes = read_sized(alloc, decoder, n)?;
             Ok(bytes)
         }
         None => {
-            read_open(decoder, text, at, &mut bytes)?;
+            let mut bytes = Vec::new(alloc);
+            read_open(decoder, false, at, &mut bytes)?;
             Ok(bytes)
         }
     }
@@ -356,17 +348,20 @@ fn read_open<R: Read>(
 {
     let mut inner: usize = 0;
     'parts: loop {
-        let (place, header) = next_title(decoder)?;
-        match part_of(text, header) {
-            Part::Close => {
-                if inner == 0 {
-                    return Ok(());
-                }
-                inner -= 1;
+        let place = decoder.offset();
+        next_head(decoder)?;
+        if is_string(decoder, text) {
+            match decoder.head_length() {
+                Some(n) => read_chunk(decoder, text, n, place, into)?,
+                None => inner += 1,
             }
-            Part::Open => inner += 1,
-            Part::Chunk(n) => read_chunk(decoder, text, n, place, into)?,
-            Part::Other => return Err(Error::Syntax(place)),
+        } else if decoder.head().is_break() {
+            if inner == 0 {
+                return Ok(());
+            }
+            inner -= 1;
+        } else {
+            return Err(Error::Syntax(place));
         }
     }
 }
@@ -424,8 +419,7 @@ fn read_whole_text<R: Read>(
     ensures leaves { Leaves R.ends (OneAfterTitle (Text (Some n))) result
         (seen R.Read decoder.old) (seen R.Read decoder.new) }
 {
-    let mut bytes = Vec::new(alloc);
-    read_bytes(decoder, n, &mut bytes)?;
+    let bytes = read_sized(alloc, decoder, n)?;
     match text_of(bytes) {
         Some(text) => Ok(text),
         None => Err(Error::Syntax(at)),
@@ -447,7 +441,8 @@ fn read_cut_text<R: Read>(
     ensures leaves { Leaves R.ends (OneAfterTitle (Text None)) result
         (seen R.Read decoder.old) (seen R.Read decoder.new) }
 {
-    let bytes = read_string(alloc, decoder, true, None, at)?;
+    let mut bytes = Vec::new(alloc);
+    read_open(decoder, true, at, &mut bytes)?;
     match text_of(bytes) {
         Some(text) => Ok(text),
         None => Err(Error::Syntax(at)),

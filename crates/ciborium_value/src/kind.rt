@@ -42,6 +42,11 @@ impl Kind {
 }
 
 impl fmt::Display for Kind {
+    ghost use Rattle.std.specs.Prelude.{Some};
+    ghost use Rattle.ciborium_value.specs.KindNames.{kind_name};
+
+    ghost output = { λ kind. Some (kind_name kind) };
+
     fn fmt<W: fmt::Write>(&self, f: &mut fmt::Formatter<W>) -> fmt::Result {
         f.write_str(self.name())
     }

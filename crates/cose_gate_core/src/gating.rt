@@ -23,7 +23,7 @@ use crate::judge::Judge;
 use crate::passing::{ItemFault, pass_front};
 use crate::report::{Entry, Report, Verdict};
 use crate::terms::Terms;
-use ciborium::{Front, Value, de, read_front};
+use ciborium::{Front, Spare, Value, de, read_front};
 use ciborium_ll::{Decoder, Read, Write};
 use std::alloc::{AllocError, Global};
 use std::fmt;
@@ -157,6 +157,7 @@ fn front_of<R: Read>(
     alloc: Global,
     terms: Terms,
     decoder: &mut Decoder<R>,
+    spare: &mut Spare,
 ) -> Result<(Front, bool), de::Error<R::Error>>
     requires { terms.strict ≡ true → waiting_of decoder.old ≡ None }
     ensures ok { IfOk result (λ r. Takes (seen R.Read decoder.old) (seen R.Read decoder.new)
@@ -179,7 +180,7 @@ fn front_of<R: Read>(
         let (value, exact) = read_item(alloc, terms, decoder)?;
         return Ok((Front::Item(value), exact));
     }
-    let front = read_front(alloc, decoder, terms.limits.nesting())?;
+    let front = read_front(alloc, decoder, terms.limits.nesting(), spare)?;
     Ok((front, false))
 }
 
@@ -188,6 +189,7 @@ fn next_front<R: Read>(
     alloc: Global,
     terms: Terms,
     decoder: &mut Decoder<R>,
+    spare: &mut Spare,
 ) -> Result<Option<(Front, bool)>, GateFault<R::Error>>
     requires { terms.strict ≡ true → waiting_of decoder.old ≡ None }
     ensures next { IfOk result (IsNext terms
@@ -209,7 +211,7 @@ fn next_front<R: Read>(
     ensures fresh { waiting_of decoder.new ≡ None }
 {
     let offset = decoder.offset();
-    match front_of(alloc, terms, decoder) {
+    match front_of(alloc, terms, decoder, spare) {
         Ok(front) => Ok(Some(front)),
         Err(error) if is_end::<R>(&error) && decoder.offset() == offset => Ok(None),
         Err(error) => Err(GateFault::from(error)),
@@ -272,6 +274,7 @@ pub fn gate_next<R: Read, W: Write, P: Report, J: Judge>(
     out: &mut W,
     report: &mut P,
     judge: &mut J,
+    spare: &mut Spare,
 ) -> Result<Option<Counts>, GateFault<R::Error>>
     requires fresh { item.terms.strict ≡ true → waiting_of decoder.old ≡ None }
     requires room { item.counts.passed + item.counts.refused ≤ offset_of decoder.old }
@@ -299,7 +302,7 @@ pub fn gate_next<R: Read, W: Write, P: Report, J: Judge>(
     ensures fresh { waiting_of decoder.new ≡ None }
 {
     let offset = decoder.offset();
-    let Some((front, exact)) = next_front(alloc, item.terms, decoder)? else {
+    let Some((front, exact)) = next_front(alloc, item.terms, decoder, spare)? else {
         return Ok(None);
     };
     let verdict = pass_front(alloc, item, exact, front, out, judge)?;
@@ -372,9 +375,10 @@ pub fn gate_by<R: Read, W: Write, P: Report, J: Judge>(
         passed: 0,
         refused: 0,
     };
+    let mut spare = Spare::new(alloc);
     'items: loop {
         let item = ItemTerms { terms, aad, counts };
-        let Some(next) = gate_next(alloc, item, decoder, out, report, judge)? else {
+        let Some(next) = gate_next(alloc, item, decoder, out, report, judge, &mut spare)? else {
             return Ok(counts);
         };
         counts = next;

@@ -1,13 +1,10 @@
 -- The text of each line that a run tells.
 use Rattle.std.specs.Prelude.{ℕ, List, ◌++◌, flat_map, codes}
 use Rattle.std.specs.Fmt.{decimal}
-use Rattle.ciborium.specs.ErrorNames.{error_name}
+pub use Rattle.ciborium.specs.ErrorNames.{decode_text}
 use Rattle.ciborium.specs.declared.de.Error.{Error}
 use Rattle.ciborium.specs.declared.de.Error.TheVariants as de
-use Rattle.ciborium_value.specs.KindNames.{kind_name}
-use Rattle.coset_labels.specs.ErrorWords.{error_words}
-use Rattle.coset_labels.specs.declared.error.CoseError.{CoseError}
-use Rattle.coset_labels.specs.declared.error.CoseError.TheVariants as code
+pub use Rattle.coset_labels.specs.ErrorTexts.{ended, cose_text}
 use Rattle.cose_gate_core.specs.ReasonNames.{refusal_name, fault_name}
 use Rattle.cose_gate_core.specs.declared.gating.Counts.{Counts}
 use Rattle.cose_gate_core.specs.declared.gating.GateFault.{GateFault}
@@ -37,21 +34,6 @@ abbrev pub counts_line : Counts → List ℕ
 counts_line c =
     codes "passed " ++ (decimal c.passed ++ (codes ", refused " ++ (decimal c.refused ++ codes "\n")))
 
--- what is told of a fault of decoding in parentheses behind its name, if of a reader's it is this
-abbrev pub decode_detail : {E : Type 0} → List ℕ → Error E → List ℕ
-decode_detail io (de.Io e) = io
-decode_detail io (de.Syntax at) = codes "(" ++ (decimal at ++ codes ")")
-decode_detail io (de.Semantic at k) = codes "(" ++ (kind_name k ++ codes ")")
-decode_detail io de.RecursionLimitExceeded = codes ""
-decode_detail io de.Memory = codes ""
-decode_detail io de.TooLong = codes ""
-
-abbrev pub decode_text : {E : Type 0} → List ℕ → Error E → List ℕ
-decode_text io e = error_name e ++ decode_detail io e
-
-abbrev pub ended : List ℕ
-ended = codes "(EndOfFile)"
-
 -- of a fault of the input: that it ended, or nothing if it failed
 abbrev pub input_detail : Error InputFault → List ℕ
 input_detail (de.Io fault.Failed) = codes ""
@@ -66,13 +48,6 @@ fault_text gating.Memory = fault_name {E = InputFault} gating.Memory
 -- stopped: decode: FAULT, stopped: write, or stopped: memory
 abbrev pub stopped_line : GateFault InputFault → List ℕ
 stopped_line f = codes "stopped: " ++ (fault_text f ++ codes "\n")
-
--- what is wrong with a key set
-abbrev pub cose_text : CoseError → List ℕ
-cose_text (code.DecodeFailed e) = error_words (code.DecodeFailed e) ++ decode_text ended e
-cose_text (code.UnexpectedItem got want) =
-    error_words (code.UnexpectedItem got want) ++ (got.now ++ (codes ", expected " ++ want.now))
-cose_text e = error_words e
 
 abbrev pub reason_text : NotBegun → List ℕ
 reason_text unbegun.NoFile = codes "keys: cannot be read"

@@ -159,15 +159,27 @@ fn write_reason<W: Write>(why: NotBegun, out: &mut W)
 fn write_cose_error<W: Write>(error: CoseError, out: &mut W)
     ensures { Wrote W.Write out.old out.new (spec.cose_text error) }
 {
-    write(error.words().as_bytes(), out);
     match error {
-        CoseError::DecodeFailed(error) => write_decode_fault(&error, ENDED, out),
+        CoseError::DecodeFailed(error) => {
+            write(b"decode CBOR failure: ", out);
+            write_decode_fault(&error, ENDED, out);
+        }
+        CoseError::DuplicateMapKey => write(b"duplicate map key", out),
+        CoseError::EncodeFailed => write(b"encode CBOR failure", out),
+        CoseError::ExtraneousData => write(b"extraneous data in CBOR input", out),
+        CoseError::OutOfRangeIntegerValue => write(b"out of range integer value", out),
         CoseError::UnexpectedItem(got, expected) => {
+            write(b"got ", out);
             write(got.as_bytes(), out);
             write(b", expected ", out);
             write(expected.as_bytes(), out);
         }
-        _ => {}
+        CoseError::UnregisteredIanaValue => write(b"expected recognized IANA value", out),
+        CoseError::UnregisteredIanaNonPrivateValue => {
+            write(b"expected value in IANA or private use range", out);
+        }
+        CoseError::Memory => write(b"out of memory", out),
+        CoseError::TooManyLayers => write(b"too many protected layers", out),
     }
 }
 

@@ -20,6 +20,7 @@ use crate::judge::HmacJudge;
 use crate::lines::{Lines, write_notice};
 use crate::telling::{Notice, Teller, TellerReport};
 use crate::whole::is_whole;
+use ciborium::Spare;
 use ciborium_ll::log::Log;
 use ciborium_ll::{Decoder, Read, Write};
 use cose_gate_core::{Counts, GateFault, ItemTerms, Judge, Limits, Terms, gate_next};
@@ -82,9 +83,10 @@ fn gate_live<R: Read, W: Write, T: Teller, J: Judge>(
         passed: 0,
         refused: 0,
     };
+    let mut spare = Spare::new(alloc);
     'items: loop {
         let item = ItemTerms { terms, aad, counts };
-        let Some(next) = gate_next(alloc, item, decoder, out, report, judge)? else {
+        let Some(next) = gate_next(alloc, item, decoder, out, report, judge, &mut spare)? else {
             return Ok(counts);
         };
         counts = next;

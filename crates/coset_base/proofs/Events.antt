@@ -19,7 +19,8 @@ use Rattle.ciborium_value.specs.declared.value.Value.{Value}
 use Rattle.coset_headers.specs.Fields.{Plain, plain_part, HeaderFields, header, Signatures, no_signatures, signature_more}
 use Rattle.coset_base.specs.Put.{entry_events, signs_begun, name_events, string_events, entry_count, header_begun, header_put, protected_put, signature_put, signatures_put}
 use Rattle.coset_headers.specs.View.{header_view, protected_view, entry_view, signature_view, signatures_view, plain_parts}
-use Rattle.coset_headers.specs.Written.{entry_of, entries_from, values_of, name_entry, crit_entry, bytes_entry, written_entries, entry_tree, tree_of, bare_or_list, is_nil, is_unsigned}
+use Rattle.coset_headers.specs.Values.{entries_from, values_of}
+use Rattle.coset_headers.specs.Written.{entry_of, name_entry, crit_entry, bytes_entry, written_entries, entry_tree, tree_of, bare_or_list, is_nil, is_unsigned}
 use Rattle.coset_headers.specs.declared.header.CoseSignature.{CoseSignature, out-CoseSignature}
 use Rattle.coset_headers.specs.declared.header.Header.{Header, out-Header}
 use Rattle.coset_headers.proofs.Alike.{header_is, signature_is}

@@ -1,19 +1,21 @@
--- Claims that were read, written and read again are the first.
-use Rattle.std.proofs.Common.{◌≡◌, ℕ, ℤ, pos, inl, inr, List, [], ◌∷◌, ◌++◌, map, Bool, true, false, cond, Option, Some, None, option_map, option_and_then, refl, sym, ap, subst, ◌∙◌}
-use Rattle.std.specs.Prelude.{nat_eq}
+-- The claims as fields with numbers: a value has one set of claims at most, one more entry gives one
+-- field, and claims that were read, written and read again are the first.
+use Rattle.std.proofs.Common.{◌≡◌, ℕ, ℤ, pos, List, [], ◌∷◌, ◌++◌, map, Bool, true, false, ◌||◌, cond, nat_eq, Option, Some, None, option_map, refl, sym, ap, subst, ◌∙◌}
 use Rattle.cose_iana.specs.Claims.{cwt_claim_names}
 use Rattle.cose_iana.specs.Registry.{is_private_use}
-use Rattle.ciborium_value.specs.Tree.{Tree, integer, bytes, text, array, map as map_tree, tag, simple, float, Pairs, no_pairs, pair_more}
+use Rattle.ciborium_value.specs.Tree.{Tree, integer, bytes, text, array, map as map_tree, tag, simple, float}
 use Rattle.ciborium_value.specs.View.{pairs}
-use Rattle.coset_labels.specs.Entries.{IsIn, Distinct}
+use Rattle.coset_labels.specs.Entries.{is_name, IsIn, Distinct, IsField}
 use Rattle.coset_labels.specs.Facts.Back.{named_back}
-use Rattle.coset_labels.specs.Facts.Entries.{kept, distinct_others}
+use Rattle.coset_labels.specs.Facts.Entries.{is_name_is, at_old, others_own, others_more, field_once, kept}
 use Rattle.coset_labels.specs.Fields.{Named, assigned}
 use Rattle.coset_labels.specs.Labels.{is_i64, named_tree}
-use Rattle.coset_claims.specs.Fields.{TimeFields, whole_seconds, fractional_seconds, ClaimsFields}
-use Rattle.coset_claims.specs.Claims.{is_at, is_core, name_of, text_of, time_of, bytes_of, entries, at, others, IsField, IsClaims, HasClaims}
+use Rattle.coset_claims.specs.Fields.{TimeFields, whole_seconds, fractional_seconds, ClaimsFields, no_claims}
+use Rattle.coset_claims.specs.Claims.{is_core, name_of, text_of, time_of, bytes_of, entries, at, others, IsClaims, HasClaims}
+use Rattle.coset_claims.specs.Steps.{Fills, fills_field, fills_rest}
+use Rattle.coset_labels.specs.Table.{entry_of, entries_of, Choose}
 use Rattle.coset_claims.specs.Written.{time_tree, field_entry, written_entries, entry_tree, claims_tree}
-use Rattle.coset_claims.proofs.Entered.{is_at_is, no_core}
+use Rattle.coset_labels.proofs.Table.{counts, optional_back, entered, not_own, again}
 
 -- ---- what is read of a value is written as that value
 text_back : (t : Tree) (b : List ℕ) → text_of t ≡ Some b → text b ≡ t
@@ -50,201 +52,109 @@ time_back (map_tree ps) s e = let h : None ≡ Some s = e in cc
 time_back (tag n t) s e = let h : None ≡ Some s = e in cc
 time_back (simple n) s e = let h : None ≡ Some s = e in cc
 
--- the value of a field is the one that stood there
-was_set : {A : Type 0} (o x : Option A) → option_map Some o ≡ Some x → (a : A) × (o ≡ Some a) × (x ≡ Some a)
-was_set None x e = let h : None ≡ Some x = e in cc
-was_set (Some a) x e = let h : Some (Some a) ≡ Some x = e in (a, refl, cc)
+abbrev key : ℕ → Named
+key n = assigned (pos n)
 
-field_back : {A : Type 0} (f : Tree → Option A) (g : A → Tree) → ((t : Tree) (a : A) → f t ≡ Some a → g a ≡ t) → (o : Option Tree) (x : Option A) → IsField f o x → option_map g x ≡ o
-field_back f g back None x w = ap (option_map g) w
-field_back f g back (Some t) x w = let h = was_set (f t) x w in ap (option_map g) h.2 ∙ ap Some (back t h.0 h.1)
+-- the fields with their numbers, each with what it is written as, if it is set
+abbrev fields_of : ClaimsFields → List (ℕ × Option Tree)
+fields_of c = (1, option_map text c.issuer) ∷ (2, option_map text c.subject) ∷ (3, option_map text c.audience) ∷ (4, option_map time_tree c.expiration_time) ∷ (5, option_map time_tree c.not_before) ∷ (6, option_map time_tree c.issued_at) ∷ (7, option_map bytes c.cwt_id) ∷ []
 
--- ---- names that can be read again
-abbrev Names : List (Named × Tree) → Type 0
-Names [] = Unit {0}
-Names (e ∷ es) = (name_of (named_tree e.0) ≡ Some e.0) × Names es
+or_false : (b : Bool) → (b || false) ≡ b
+or_false true = refl
+or_false false = refl
 
-name_again : (l : Tree) (m : Named) → name_of l ≡ Some m → name_of (named_tree m) ≡ Some m
-name_again l m e = ap name_of (named_back cwt_claim_names.is_registered is_private_use l m e) ∙ e
+core_counts : (c : ClaimsFields) (n : ℕ) → counts (fields_of c) n ≡ true → is_core (key n) ≡ true
+core_counts c n h = sym (ap (λ z. nat_eq 1 n || (nat_eq 2 n || (nat_eq 3 n || (nat_eq 4 n || (nat_eq 5 n || (nat_eq 6 n || z)))))) (or_false (nat_eq 7 n))) ∙ h
 
-names_step : (l v : Tree) (o : Option Named) (w : Option (List (Named × Tree))) (es : List (Named × Tree)) → name_of l ≡ o → ((fs : List (Named × Tree)) → w ≡ Some fs → Names fs)
-    → option_and_then (λ m. option_map (λ es. (m, v) ∷ es) w) o ≡ Some es → Names es
-names_step l v None w es q f e = let h : None ≡ Some es = e in cc
-names_step l v (Some m) None es q f e = let h : None ≡ Some es = e in cc
-names_step l v (Some m) (Some fs) es q f e = let h : Some ((m, v) ∷ fs) ≡ Some es = e in let k : (m, v) ∷ fs ≡ es = cc in subst Names k (name_again l m q, f fs refl)
+-- ---- at most one
+claims_same : (p q : ClaimsFields) → p.issuer ≡ q.issuer → p.subject ≡ q.subject → p.audience ≡ q.audience → p.expiration_time ≡ q.expiration_time → p.not_before ≡ q.not_before → p.issued_at ≡ q.issued_at
+    → p.cwt_id ≡ q.cwt_id → p.rest ≡ q.rest → p ≡ q
+claims_same p q a b c d e f g h = λ i. record { issuer = a i; subject = b i; audience = c i; expiration_time = d i; not_before = e i; issued_at = f i; cwt_id = g i; rest = h i }
 
-all_names : (ps : Pairs) (es : List (Named × Tree)) → entries ps ≡ Some es → Names es
-all_names no_pairs es e = let h : Some [] ≡ Some es = e in let k : [] ≡ es = cc in subst Names k tt
-all_names (pair_more l v ps) es e = names_step l v (name_of l) (entries ps) es refl (all_names ps) e
+fields_once : (es : List (Named × Tree)) (p q : ClaimsFields) → IsClaims es p → IsClaims es q → p ≡ q
+fields_once es p q a b = claims_same p q
+    (field_once _ _ _ _ _ a.issuer b.issuer)
+    (field_once _ _ _ _ _ a.subject b.subject)
+    (field_once _ _ _ _ _ a.audience b.audience)
+    (field_once _ _ _ _ _ a.expiration_time b.expiration_time)
+    (field_once _ _ _ _ _ a.not_before b.not_before)
+    (field_once _ _ _ _ _ a.issued_at b.issued_at)
+    (field_once _ _ _ _ _ a.cwt_id b.cwt_id)
+    (a.rest ∙ sym b.rest)
 
-read_again : (es : List (Named × Tree)) → Names es → entries (pairs (map entry_tree es)) ≡ Some es
-read_again [] n = refl
-read_again (e ∷ es) n = ap (λ o. option_and_then (λ m. option_map (λ es. (m, e.1) ∷ es) (entries (pairs (map entry_tree es)))) o) n.0 ∙ ap (option_map (λ fs. e ∷ fs)) (read_again es n.1)
+pub claims_once : (t : Tree) (c d : ClaimsFields) → HasClaims t c → HasClaims t d → c ≡ d
+claims_once t c d a b =
+    let maps : map_tree a.0 ≡ map_tree b.0 = sym a.2 ∙ b.2 in
+    let pairs : a.0 ≡ b.0 = cc in
+    let some : Some a.1 ≡ Some b.1 = sym a.3 ∙ ap entries pairs ∙ b.3 in
+    let same : b.1 ≡ a.1 = cc in
+    fields_once a.1 c d a.5 (subst (λ z. IsClaims z d) same b.5)
 
-at_step : (n : ℕ) (m : Named) (v t : Tree) (o : Option Tree) (b : Bool) → is_at n m ≡ b → name_of (named_tree m) ≡ Some m → (o ≡ Some t → name_of (named_tree (assigned (pos n))) ≡ Some (assigned (pos n)))
-    → cond b (Some v) o ≡ Some t → name_of (named_tree (assigned (pos n))) ≡ Some (assigned (pos n))
-at_step n m v t o true q w f e = subst (λ z. name_of (named_tree z) ≡ Some z) (is_at_is n m q) w
-at_step n m v t o false q w f e = f e
+-- ---- one more entry
+pub filled : (es : List (Named × Tree)) (p q : ClaimsFields) (m : Named) (v : Tree) → IsClaims es p → (IsIn m es → ⊥) → Fills m v p q → IsClaims (es ++ (m, v) ∷ []) q
+filled es p q m v w d (fills_field n e c s) =
+    let fresh : IsIn (key n) es → ⊥ = subst (λ z. IsIn z es → ⊥) e d in
+    subst (λ z. IsClaims (es ++ (z, v) ∷ []) q) (sym e) (record {
+      issuer = one _ 1 n es v _ _ fresh w.issuer s.issuer;
+      subject = one _ 2 n es v _ _ fresh w.subject s.subject;
+      audience = one _ 3 n es v _ _ fresh w.audience s.audience;
+      expiration_time = one _ 4 n es v _ _ fresh w.expiration_time s.expiration_time;
+      not_before = one _ 5 n es v _ _ fresh w.not_before s.not_before;
+      issued_at = one _ 6 n es v _ _ fresh w.issued_at s.issued_at;
+      cwt_id = one _ 7 n es v _ _ fresh w.cwt_id s.cwt_id;
+      rest = sym s.rest ∙ w.rest ∙ sym (others_own is_core es (key n) v c);
+    })
+  where
+    one : {A : Type 0} (f : Tree → Option (Option A)) (k n : ℕ) (es : List (Named × Tree)) (v : Tree) (old new : Option A) → (IsIn (key n) es → ⊥) → IsField f None (at k es) old
+        → Choose (nat_eq k n) (f v ≡ Some new) (old ≡ new) → IsField f None (at k (es ++ (key n, v) ∷ [])) new
+    one f = entered is_name key (λ n m. refl) is_name_is (IsField f None)
+filled es p q m v w d (fills_rest c g) =
+    subst (IsClaims (es ++ (m, v) ∷ [])) (sym g) (record {
+      issuer = kept _ _ _ _ _ (old 1 refl) w.issuer;
+      subject = kept _ _ _ _ _ (old 2 refl) w.subject;
+      audience = kept _ _ _ _ _ (old 3 refl) w.audience;
+      expiration_time = kept _ _ _ _ _ (old 4 refl) w.expiration_time;
+      not_before = kept _ _ _ _ _ (old 5 refl) w.not_before;
+      issued_at = kept _ _ _ _ _ (old 6 refl) w.issued_at;
+      cwt_id = kept _ _ _ _ _ (old 7 refl) w.cwt_id;
+      rest = ap (λ z. z ++ (m, v) ∷ []) w.rest ∙ sym (others_more is_core es m v c);
+    })
+  where
+    old : (n : ℕ) → is_core (key n) ≡ true → at n (es ++ (m, v) ∷ []) ≡ at n es
+    old n a = at_old (is_name n) es m v (not_own is_name key (λ n m. refl) is_name_is is_core n m a c)
 
-name_at : (n : ℕ) (es : List (Named × Tree)) (t : Tree) → Names es → at n es ≡ Some t → name_of (named_tree (assigned (pos n))) ≡ Some (assigned (pos n))
-name_at n [] t w e = let h : None ≡ Some t = e in cc
-name_at n (x ∷ es) t w e = at_step n x.0 x.1 t (at n es) (is_at n x.0) refl w.0 (name_at n es t w.1) e
+pub none_set : IsClaims [] no_claims
+none_set = record { issuer = refl; subject = refl; audience = refl; expiration_time = refl; not_before = refl; issued_at = refl; cwt_id = refl; rest = refl }
 
--- ---- the other claims
-keeps_none : (n : ℕ) (x : Named × Tree) (es : List (Named × Tree)) (b : Bool) → is_core x.0 ≡ b → ((m : Named) → is_core m ≡ false → is_at n m ≡ false) → at n (others es) ≡ None → at n (cond b (others es) (x ∷ others es)) ≡ None
-keeps_none n x es true q f w = w
-keeps_none n x es false q f w = ap (λ b. cond b (Some x.1) (at n (others es))) (f x.0 q) ∙ w
+-- ---- written and read again
+added : {A : Type 0} (g : A → Tree) (n : ℕ) (x : Option A) (ws es : List (Named × Tree)) → ws ≡ es → entry_of key n (option_map g x) ++ ws ≡ field_entry g n x ++ es
+added g n None ws es h = h
+added g n (Some a) ws es h = ap (λ z. (key n, g a) ∷ z) h
 
-at_others : (n : ℕ) (es : List (Named × Tree)) → ((m : Named) → is_core m ≡ false → is_at n m ≡ false) → at n (others es) ≡ None
-at_others n [] f = refl
-at_others n (x ∷ es) f = keeps_none n x es (is_core x.0) refl f (at_others n es f)
-
-keeps_names : (x : Named × Tree) (b : Bool) (fs : List (Named × Tree)) → name_of (named_tree x.0) ≡ Some x.0 → Names fs → Names (cond b fs (x ∷ fs))
-keeps_names x true fs q w = w
-keeps_names x false fs q w = (q, w)
-
-names_others : (es : List (Named × Tree)) → Names es → Names (others es)
-names_others [] w = w
-names_others (x ∷ es) w = keeps_names x (is_core x.0) (others es) w.0 (names_others es w.1)
-
-keeps_others : (x : Named × Tree) (es : List (Named × Tree)) (b : Bool) → is_core x.0 ≡ b → others (others es) ≡ others es → others (cond b (others es) (x ∷ others es)) ≡ cond b (others es) (x ∷ others es)
-keeps_others x es true q w = w
-keeps_others x es false q w = ap (λ b. cond b (others (others es)) (x ∷ others (others es))) q ∙ ap (λ z. x ∷ z) w
-
-others_again : (es : List (Named × Tree)) → others (others es) ≡ others es
-others_again [] = refl
-others_again (x ∷ es) = keeps_others x es (is_core x.0) refl (others_again es)
-
--- ---- one field before others
-module _ {A : Type 0} (g : A → Tree) (n : ℕ) (fs : List (Named × Tree)) where
-  skipped : (k : ℕ) (x : Option A) → nat_eq k n ≡ false → at k (field_entry g n x ++ fs) ≡ at k fs
-  skipped k None e = refl
-  skipped k (Some a) e = ap (λ b. cond b (Some (g a)) (at k fs)) e
-
-  met : (x : Option A) → nat_eq n n ≡ true → at n fs ≡ None → at n (field_entry g n x ++ fs) ≡ option_map g x
-  met None e w = w
-  met (Some a) e w = ap (λ b. cond b (Some (g a)) (at n fs)) e
-
-  no_other : (x : Option A) → is_core (assigned (pos n)) ≡ true → others (field_entry g n x ++ fs) ≡ others fs
-  no_other None e = refl
-  no_other (Some a) e = ap (λ b. cond b (others fs) ((assigned (pos n), g a) ∷ others fs)) e
-
-  still_names : (x : Option A) → ((a : A) → x ≡ Some a → name_of (named_tree (assigned (pos n))) ≡ Some (assigned (pos n))) → Names fs → Names (field_entry g n x ++ fs)
-  still_names None f w = w
-  still_names (Some a) f w = (f a refl, w)
-
-  still_distinct : (x : Option A) → (IsIn (assigned (pos n)) fs → ⊥) → Distinct fs → Distinct (field_entry g n x ++ fs)
-  still_distinct None f d = d
-  still_distinct (Some a) f d = (f, d)
-
-there_step : (n : ℕ) (x : Named × Tree) (o : Option Tree) (b : Bool) → is_at n x.0 ≡ b → cond b (Some x.1) o ≡ None → (o ≡ None) × (is_at n x.0 ≡ false)
-there_step n x o true q e = let h : Some x.1 ≡ None = e in cc
-there_step n x o false q e = (e, q)
-
-not_there : (n : ℕ) (fs : List (Named × Tree)) → nat_eq n n ≡ true → at n fs ≡ None → IsIn (assigned (pos n)) fs → ⊥
-not_there n [] r e i = i
-not_there n (x ∷ fs) r e (inl q) = let w = there_step n x (at n fs) (is_at n x.0) refl e in let h : true ≡ false = sym r ∙ ap (is_at n) q ∙ w.1 in cc
-not_there n (x ∷ fs) r e (inr i) = not_there n fs r (there_step n x (at n fs) (is_at n x.0) refl e).0 i
-
-field_name : {A : Type 0} (f : Tree → Option A) (n : ℕ) (es : List (Named × Tree)) (x : Option A) → Names es → (o : Option Tree) → at n es ≡ o → IsField f o x → (a : A) → x ≡ Some a → name_of (named_tree (assigned (pos n))) ≡ Some (assigned (pos n))
-field_name f n es x w None q h a e = let k : None ≡ Some a = sym h ∙ e in cc
-field_name f n es x w (Some t) q h a e = name_at n es t w q
-
-module _ (es : List (Named × Tree)) (c : ClaimsFields) (w : IsClaims es c) (names : Names es) (d : Distinct es) where
-  abbrev t8 : List (Named × Tree)
-  t8 = others es
-
-  abbrev t7 : List (Named × Tree)
-  t7 = field_entry bytes 7 c.cwt_id ++ t8
-
-  abbrev t6 : List (Named × Tree)
-  t6 = field_entry time_tree 6 c.issued_at ++ t7
-
-  abbrev t5 : List (Named × Tree)
-  t5 = field_entry time_tree 5 c.not_before ++ t6
-
-  abbrev t4 : List (Named × Tree)
-  t4 = field_entry time_tree 4 c.expiration_time ++ t5
-
-  abbrev t3 : List (Named × Tree)
-  t3 = field_entry text 3 c.audience ++ t4
-
-  abbrev t2 : List (Named × Tree)
-  t2 = field_entry text 2 c.subject ++ t3
-
-  abbrev t1 : List (Named × Tree)
-  t1 = field_entry text 1 c.issuer ++ t2
-
-  behind_1 : at 1 t2 ≡ None
-  behind_1 = skipped text 2 t3 1 c.subject refl ∙ skipped text 3 t4 1 c.audience refl ∙ skipped time_tree 4 t5 1 c.expiration_time refl ∙ skipped time_tree 5 t6 1 c.not_before refl ∙ skipped time_tree 6 t7 1 c.issued_at refl ∙ skipped bytes 7 t8 1 c.cwt_id refl ∙ at_others 1 es (λ m o. (no_core m o).no_1)
-
-  same_1 : at 1 t1 ≡ at 1 es
-  same_1 = met text 1 t2 c.issuer refl behind_1 ∙ field_back text_of text text_back (at 1 es) c.issuer w.issuer
-
-  behind_2 : at 2 t3 ≡ None
-  behind_2 = skipped text 3 t4 2 c.audience refl ∙ skipped time_tree 4 t5 2 c.expiration_time refl ∙ skipped time_tree 5 t6 2 c.not_before refl ∙ skipped time_tree 6 t7 2 c.issued_at refl ∙ skipped bytes 7 t8 2 c.cwt_id refl ∙ at_others 2 es (λ m o. (no_core m o).no_2)
-
-  same_2 : at 2 t1 ≡ at 2 es
-  same_2 = skipped text 1 t2 2 c.issuer refl ∙ met text 2 t3 c.subject refl behind_2 ∙ field_back text_of text text_back (at 2 es) c.subject w.subject
-
-  behind_3 : at 3 t4 ≡ None
-  behind_3 = skipped time_tree 4 t5 3 c.expiration_time refl ∙ skipped time_tree 5 t6 3 c.not_before refl ∙ skipped time_tree 6 t7 3 c.issued_at refl ∙ skipped bytes 7 t8 3 c.cwt_id refl ∙ at_others 3 es (λ m o. (no_core m o).no_3)
-
-  same_3 : at 3 t1 ≡ at 3 es
-  same_3 = skipped text 1 t2 3 c.issuer refl ∙ skipped text 2 t3 3 c.subject refl ∙ met text 3 t4 c.audience refl behind_3 ∙ field_back text_of text text_back (at 3 es) c.audience w.audience
-
-  behind_4 : at 4 t5 ≡ None
-  behind_4 = skipped time_tree 5 t6 4 c.not_before refl ∙ skipped time_tree 6 t7 4 c.issued_at refl ∙ skipped bytes 7 t8 4 c.cwt_id refl ∙ at_others 4 es (λ m o. (no_core m o).no_4)
-
-  same_4 : at 4 t1 ≡ at 4 es
-  same_4 = skipped text 1 t2 4 c.issuer refl ∙ skipped text 2 t3 4 c.subject refl ∙ skipped text 3 t4 4 c.audience refl ∙ met time_tree 4 t5 c.expiration_time refl behind_4 ∙ field_back time_of time_tree time_back (at 4 es) c.expiration_time w.expiration_time
-
-  behind_5 : at 5 t6 ≡ None
-  behind_5 = skipped time_tree 6 t7 5 c.issued_at refl ∙ skipped bytes 7 t8 5 c.cwt_id refl ∙ at_others 5 es (λ m o. (no_core m o).no_5)
-
-  same_5 : at 5 t1 ≡ at 5 es
-  same_5 = skipped text 1 t2 5 c.issuer refl ∙ skipped text 2 t3 5 c.subject refl ∙ skipped text 3 t4 5 c.audience refl ∙ skipped time_tree 4 t5 5 c.expiration_time refl ∙ met time_tree 5 t6 c.not_before refl behind_5 ∙ field_back time_of time_tree time_back (at 5 es) c.not_before w.not_before
-
-  behind_6 : at 6 t7 ≡ None
-  behind_6 = skipped bytes 7 t8 6 c.cwt_id refl ∙ at_others 6 es (λ m o. (no_core m o).no_6)
-
-  same_6 : at 6 t1 ≡ at 6 es
-  same_6 = skipped text 1 t2 6 c.issuer refl ∙ skipped text 2 t3 6 c.subject refl ∙ skipped text 3 t4 6 c.audience refl ∙ skipped time_tree 4 t5 6 c.expiration_time refl ∙ skipped time_tree 5 t6 6 c.not_before refl ∙ met time_tree 6 t7 c.issued_at refl behind_6 ∙ field_back time_of time_tree time_back (at 6 es) c.issued_at w.issued_at
-
-  behind_7 : at 7 t8 ≡ None
-  behind_7 = at_others 7 es (λ m o. (no_core m o).no_7)
-
-  same_7 : at 7 t1 ≡ at 7 es
-  same_7 = skipped text 1 t2 7 c.issuer refl ∙ skipped text 2 t3 7 c.subject refl ∙ skipped text 3 t4 7 c.audience refl ∙ skipped time_tree 4 t5 7 c.expiration_time refl ∙ skipped time_tree 5 t6 7 c.not_before refl ∙ skipped time_tree 6 t7 7 c.issued_at refl ∙ met bytes 7 t8 c.cwt_id refl behind_7 ∙ field_back bytes_of bytes bytes_back (at 7 es) c.cwt_id w.cwt_id
-
-  names_there : Names t1
-  names_there = still_names text 1 t2 c.issuer (field_name text_of 1 es c.issuer names (at 1 es) refl w.issuer) (still_names text 2 t3 c.subject (field_name text_of 2 es c.subject names (at 2 es) refl w.subject) (still_names text 3 t4 c.audience (field_name text_of 3 es c.audience names (at 3 es) refl w.audience) (still_names time_tree 4 t5 c.expiration_time (field_name time_of 4 es c.expiration_time names (at 4 es) refl w.expiration_time) (still_names time_tree 5 t6 c.not_before (field_name time_of 5 es c.not_before names (at 5 es) refl w.not_before) (still_names time_tree 6 t7 c.issued_at (field_name time_of 6 es c.issued_at names (at 6 es) refl w.issued_at) (still_names bytes 7 t8 c.cwt_id (field_name bytes_of 7 es c.cwt_id names (at 7 es) refl w.cwt_id) (names_others es names)))))))
-
-  distinct_there : Distinct t1
-  distinct_there = still_distinct text 1 t2 c.issuer (not_there 1 t2 refl behind_1) (still_distinct text 2 t3 c.subject (not_there 2 t3 refl behind_2) (still_distinct text 3 t4 c.audience (not_there 3 t4 refl behind_3) (still_distinct time_tree 4 t5 c.expiration_time (not_there 4 t5 refl behind_4) (still_distinct time_tree 5 t6 c.not_before (not_there 5 t6 refl behind_5) (still_distinct time_tree 6 t7 c.issued_at (not_there 6 t7 refl behind_6) (still_distinct bytes 7 t8 c.cwt_id (not_there 7 t8 refl behind_7) (distinct_others is_core es d)))))))
-
-  others_there : others t1 ≡ others es
-  others_there = no_other text 1 t2 c.issuer refl ∙ no_other text 2 t3 c.subject refl ∙ no_other text 3 t4 c.audience refl ∙ no_other time_tree 4 t5 c.expiration_time refl ∙ no_other time_tree 5 t6 c.not_before refl ∙ no_other time_tree 6 t7 c.issued_at refl ∙ no_other bytes 7 t8 c.cwt_id refl ∙ others_again es
-
-  claims_there : IsClaims t1 c
-  claims_there = record {
-    issuer = kept _ _ (at 1 es) (at 1 t1) c.issuer same_1 w.issuer;
-    subject = kept _ _ (at 2 es) (at 2 t1) c.subject same_2 w.subject;
-    audience = kept _ _ (at 3 es) (at 3 t1) c.audience same_3 w.audience;
-    expiration_time = kept _ _ (at 4 es) (at 4 t1) c.expiration_time same_4 w.expiration_time;
-    not_before = kept _ _ (at 5 es) (at 5 t1) c.not_before same_5 w.not_before;
-    issued_at = kept _ _ (at 6 es) (at 6 t1) c.issued_at same_6 w.issued_at;
-    cwt_id = kept _ _ (at 7 es) (at 7 t1) c.cwt_id same_7 w.cwt_id;
-    rest = w.rest ∙ sym others_there;
-  }
-
-  is_t1 : written_entries c ≡ t1
-  is_t1 = ap (λ z. field_entry text 1 c.issuer ++ (field_entry text 2 c.subject ++ (field_entry text 3 c.audience ++ (field_entry time_tree 4 c.expiration_time ++ (field_entry time_tree 5 c.not_before ++ (field_entry time_tree 6 c.issued_at ++ (field_entry bytes 7 c.cwt_id ++ z))))))) w.rest
+written_is : (c : ClaimsFields) (es : List (Named × Tree)) → es ≡ c.rest → entries_of key (fields_of c) es ≡ written_entries c
+written_is c es h =
+    added text 1 c.issuer _ _ (added text 2 c.subject _ _ (added text 3 c.audience _ _ (added time_tree 4 c.expiration_time _ _
+    (added time_tree 5 c.not_before _ _ (added time_tree 6 c.issued_at _ _ (added bytes 7 c.cwt_id _ _ h))))))
 
 pub claims_again : (t : Tree) (c : ClaimsFields) → HasClaims t c → HasClaims (claims_tree c) c
 claims_again t c (ps, es, q, r, d, w) =
-    let names = all_names ps es r in
-    let same = is_t1 es c w names d in
-    let all = t1 es c w names d in
-    let whole = ap (λ z. map_tree (pairs (map entry_tree z))) same in
-    (pairs (map entry_tree all), all, whole, read_again all (names_there es c w names d), distinct_there es c w names d, claims_there es c w names d)
+    let ws = entries_of key (fields_of c) (others es) in
+    let g = again is_name key (λ n m. refl) is_name_is is_core name_of named_tree (named_back cwt_claim_names.is_registered is_private_use) (fields_of c)
+    (refl, (refl, (refl, (refl, (refl, (refl, (refl, tt))))))) (refl, (refl, (refl, (refl, (refl, (refl, (refl, tt))))))) (core_counts c) ps es r d in
+    let whole : claims_tree c ≡ map_tree (pairs (map entry_tree ws)) = ap (λ z. map_tree (pairs (map entry_tree z))) (sym (written_is c (others es) (sym w.rest))) in (
+      pairs (map entry_tree ws),
+      ws,
+      whole,
+      g.entries_are,
+      g.distinct,
+      record {
+        issuer = kept _ _ _ _ _ (g.has 1 refl) (optional_back text_of text text_back _ _ w.issuer);
+        subject = kept _ _ _ _ _ (g.has 2 refl) (optional_back text_of text text_back _ _ w.subject);
+        audience = kept _ _ _ _ _ (g.has 3 refl) (optional_back text_of text text_back _ _ w.audience);
+        expiration_time = kept _ _ _ _ _ (g.has 4 refl) (optional_back time_of time_tree time_back _ _ w.expiration_time);
+        not_before = kept _ _ _ _ _ (g.has 5 refl) (optional_back time_of time_tree time_back _ _ w.not_before);
+        issued_at = kept _ _ _ _ _ (g.has 6 refl) (optional_back time_of time_tree time_back _ _ w.issued_at);
+        cwt_id = kept _ _ _ _ _ (g.has 7 refl) (optional_back bytes_of bytes bytes_back _ _ w.cwt_id);
+        rest = w.rest ∙ sym g.others_are;
+      },
+    )

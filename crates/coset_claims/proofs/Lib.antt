@@ -1,5 +1,4 @@
 pub mod Again
-pub mod Entered
 pub mod Equal
 pub mod Excludes
 pub mod Fitting
@@ -7,4 +6,3 @@ pub mod Pushed
 pub mod Scaled
 pub mod Sound
 pub mod Steps
-pub mod Unique

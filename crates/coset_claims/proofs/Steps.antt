@@ -17,7 +17,7 @@ use Rattle.coset_claims.specs.Steps.{Fills, ClaimName, Sees, KnownIn, Added, Has
 use Rattle.coset_claims.specs.View.{claims_view}
 use Rattle.coset_claims.specs.Wrong.{WrongName, WrongField, WrongEntry, bad_name, bad_field, WrongEntries, WrongClaims, no_map, at_entry}
 use Rattle.coset_claims.specs.declared.cwt.ClaimsSet.{ClaimsSet}
-use Rattle.coset_claims.proofs.Entered.{filled, none_set}
+use Rattle.coset_claims.proofs.Again.{filled, none_set}
 
 pub claims_kind : (t : Tree) (e : CoseError) → (fault_of e ≡ unexpected) × (is_map t ≡ false) → OrMemory (WrongClaims t) e
 claims_kind t e p = at_fault (WrongClaims t) unexpected e p.0 (no_map t p.1)

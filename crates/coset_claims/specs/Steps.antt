@@ -1,5 +1,5 @@
 -- What the parts of the reader show.
-use Rattle.std.specs.Prelude.{◌≡◌, ℕ, pos, List, [], ◌∷◌, ◌++◌, false, Some}
+use Rattle.std.specs.Prelude.{◌≡◌, ℕ, pos, List, [], ◌∷◌, ◌++◌, true, false, nat_eq, Option, Some, option_map}
 use Rattle.std.specs.Ordering.{on}
 use Rattle.cose_iana.specs.declared.claims.CwtClaimName.{CwtClaimName}
 use Rattle.ciborium_value.specs.Tree.{Tree, Pairs}
@@ -11,7 +11,8 @@ use Rattle.coset_labels.specs.Walks as walks
 use Rattle.coset_labels.specs.declared.registered.RegisteredLabelWithPrivate.{RegisteredLabelWithPrivate}
 use Rattle.coset_labels.specs.declared.seen_labels.SeenLabels.{SeenLabels}
 use Rattle.coset_claims.specs.Claims.{is_core, text_of, time_of, bytes_of, name_of, IsClaims}
-use Rattle.coset_claims.specs.Fields.{TimeFields, ClaimsFields}
+use Rattle.coset_claims.specs.Fields.{ClaimsFields}
+use Rattle.coset_labels.specs.Table.{Choose}
 use Rattle.coset_claims.specs.View.{name_view, claims_view}
 use Rattle.coset_claims.specs.declared.cwt.ClaimsSet.{ClaimsSet}
 use Rattle.coset_claims.specs.declared.reader.Place.{Place}
@@ -28,16 +29,23 @@ Names place.IssuedAt m = m ≡ assigned (pos 6)
 Names place.CwtId m = m ≡ assigned (pos 7)
 Names place.Rest m = is_core m ≡ false
 
+-- the value of the claim n gives the field of the claim k, if it is that one; else the field stays
+abbrev pub Sets : {A : Type 0} → (Tree → Option A) → ℕ → ℕ → Tree → Option A → Option A → Type 0
+Sets f k n v old new = Choose (nat_eq k n) (option_map Some (f v) ≡ Some new) (old ≡ new)
+
+pub record SetsOne (n : ℕ) (v : Tree) (p q : ClaimsFields) : Type 0 where
+  pub issuer : Sets text_of 1 n v p.issuer q.issuer
+  pub subject : Sets text_of 2 n v p.subject q.subject
+  pub audience : Sets text_of 3 n v p.audience q.audience
+  pub expiration_time : Sets time_of 4 n v p.expiration_time q.expiration_time
+  pub not_before : Sets time_of 5 n v p.not_before q.not_before
+  pub issued_at : Sets time_of 6 n v p.issued_at q.issued_at
+  pub cwt_id : Sets bytes_of 7 n v p.cwt_id q.cwt_id
+  pub rest : p.rest ≡ q.rest
+
 -- the entry gives one field, and the others stay
 pub data Fills (m : Named) (v : Tree) (p q : ClaimsFields) : Type 0 where
-  fills_issuer : (b : List ℕ) → m ≡ assigned (pos 1) → text_of v ≡ Some b → q ≡ record p { issuer = Some b } → Fills m v p q
-  fills_subject : (b : List ℕ) → m ≡ assigned (pos 2) → text_of v ≡ Some b → q ≡ record p { subject = Some b } → Fills m v p q
-  fills_audience : (b : List ℕ) → m ≡ assigned (pos 3) → text_of v ≡ Some b → q ≡ record p { audience = Some b } → Fills m v p q
-  fills_expiration_time : (s : TimeFields) → m ≡ assigned (pos 4) → time_of v ≡ Some s
-      → q ≡ record p { expiration_time = Some s } → Fills m v p q
-  fills_not_before : (s : TimeFields) → m ≡ assigned (pos 5) → time_of v ≡ Some s → q ≡ record p { not_before = Some s } → Fills m v p q
-  fills_issued_at : (s : TimeFields) → m ≡ assigned (pos 6) → time_of v ≡ Some s → q ≡ record p { issued_at = Some s } → Fills m v p q
-  fills_cwt_id : (b : List ℕ) → m ≡ assigned (pos 7) → bytes_of v ≡ Some b → q ≡ record p { cwt_id = Some b } → Fills m v p q
+  fills_field : (n : ℕ) → m ≡ assigned (pos n) → is_core (assigned (pos n)) ≡ true → SetsOne n v p q → Fills m v p q
   fills_rest : is_core m ≡ false → q ≡ record p { rest = p.rest ++ (m, v) ∷ [] } → Fills m v p q
 
 abbrev pub ClaimName : Type 0

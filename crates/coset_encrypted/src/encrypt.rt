@@ -45,15 +45,11 @@ impl CoseEncrypt {
     pub fn clone(&self, alloc: Global) -> Result<CoseEncrypt, AllocError>
         ensures { IfOk result (λ copy. encrypt_view copy ≡ encrypt_view self.now) }
     {
-        let protected = self.protected.clone(alloc)?;
-        let unprotected = self.unprotected.clone(alloc)?;
-        let ciphertext = clone_bytes(alloc, &self.ciphertext)?;
-        let recipients = clone_recipients(alloc, &self.recipients)?;
         Ok(CoseEncrypt {
-            protected,
-            unprotected,
-            ciphertext,
-            recipients,
+            protected: self.protected.clone(alloc)?,
+            unprotected: self.unprotected.clone(alloc)?,
+            ciphertext: clone_bytes(alloc, &self.ciphertext)?,
+            recipients: clone_recipients(alloc, &self.recipients)?,
         })
     }
 

@@ -42,13 +42,10 @@ impl CoseEncrypt0 {
     pub fn clone(&self, alloc: Global) -> Result<CoseEncrypt0, AllocError>
         ensures { IfOk result (λ copy. encrypt0_view copy ≡ encrypt0_view self.now) }
     {
-        let protected = self.protected.clone(alloc)?;
-        let unprotected = self.unprotected.clone(alloc)?;
-        let ciphertext = clone_bytes(alloc, &self.ciphertext)?;
         Ok(CoseEncrypt0 {
-            protected,
-            unprotected,
-            ciphertext,
+            protected: self.protected.clone(alloc)?,
+            unprotected: self.unprotected.clone(alloc)?,
+            ciphertext: clone_bytes(alloc, &self.ciphertext)?,
         })
     }
 

@@ -9,7 +9,7 @@ ghost use Rattle.coset_encrypted.specs.Structure.{encrypt0_covered};
 ghost use Rattle.coset_encrypted.specs.View.{encrypt0_view};
 
 use crate::encrypt0::CoseEncrypt0;
-use coset_headers::{Header, ProtectedHeader};
+use coset_headers::Header;
 use coset_labels::{CoseError, Fault};
 use std::alloc::Global;
 
@@ -41,10 +41,8 @@ impl CoseEncrypt0Builder {
         ensures { encrypt0_so_far result
             ≡ record (encrypt0_so_far self) { protected = protected None (header_view header) } }
     {
-        self.message.protected = ProtectedHeader {
-            original_data: None,
-            header,
-        };
+        self.message.protected.original_data = None;
+        self.message.protected.header = header;
         self
     }
 

@@ -35,20 +35,12 @@ impl AsCborValue for CoseEncrypt0 {
     }
 
     fn to_cbor_value(self, alloc: Global) -> Result<Value, CoseError> {
-        let CoseEncrypt0 {
-            protected,
-            unprotected,
-            ciphertext,
-        } = self;
-        let items = write_parts(
-            alloc,
-            Parts {
-                protected,
-                unprotected,
-                content: ciphertext,
-            },
-        )?;
-        Ok(Value::Array(items))
+        let parts = Parts {
+            protected: self.protected,
+            unprotected: self.unprotected,
+            content: self.ciphertext,
+        };
+        Ok(Value::Array(write_parts(alloc, parts)?))
     }
 }
 

@@ -12,7 +12,7 @@ ghost use Rattle.coset_encrypted.specs.Structure.{encrypt_covered};
 ghost use Rattle.coset_encrypted.specs.View.{encrypt_view};
 
 use crate::encrypt::CoseEncrypt;
-use coset_headers::{Header, ProtectedHeader};
+use coset_headers::Header;
 use coset_labels::{CoseError, Fault};
 use coset_recipients::CoseRecipient;
 use std::alloc::Global;
@@ -45,10 +45,8 @@ impl CoseEncryptBuilder {
         ensures { encrypt_so_far result
             ≡ record (encrypt_so_far self) { protected = protected None (header_view header) } }
     {
-        self.message.protected = ProtectedHeader {
-            original_data: None,
-            header,
-        };
+        self.message.protected.original_data = None;
+        self.message.protected.header = header;
         self
     }
 

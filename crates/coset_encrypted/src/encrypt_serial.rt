@@ -35,21 +35,13 @@ impl AsCborValue for CoseEncrypt {
     }
 
     fn to_cbor_value(self, alloc: Global) -> Result<Value, CoseError> {
-        let CoseEncrypt {
-            protected,
-            unprotected,
-            ciphertext,
-            recipients,
-        } = self;
-        let mut items = write_parts(
-            alloc,
-            Parts {
-                protected,
-                unprotected,
-                content: ciphertext,
-            },
-        )?;
-        let list = write_recipients(alloc, recipients)?;
+        let parts = Parts {
+            protected: self.protected,
+            unprotected: self.unprotected,
+            content: self.ciphertext,
+        };
+        let mut items = write_parts(alloc, parts)?;
+        let list = write_recipients(alloc, self.recipients)?;
         items.push(list)?;
         Ok(Value::Array(items))
     }

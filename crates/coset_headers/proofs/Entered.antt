@@ -14,7 +14,8 @@ use Rattle.coset_labels.specs.Labels.{label_of}
 use Rattle.coset_headers.specs.Fields.{Plain, no_plain}
 use Rattle.coset_headers.specs.Headers.{is_at, is_core, alg_of, crit_of, HasContentType, entries, at, IsIn, others, IsField, IsPlain}
 use Rattle.coset_headers.specs.Parts.{Fills, fills_alg, fills_crit, fills_content_type, fills_key_id, fills_iv, fills_partial_iv, fills_rest}
-use Rattle.coset_headers.specs.Written.{values_of, entries_from, written_entries}
+use Rattle.coset_headers.specs.Written.{written_entries}
+use Rattle.coset_headers.specs.Values.{values_of, entries_from}
 use Rattle.coset_headers.proofs.Fielded.{alg_is, crit_is, type_is, type_once, bytes_are}
 
 pub entries_snoc : (bs : List (Tree × Tree)) (es : List (LabelFields × Tree)) (l v : Tree) (m : LabelFields) → entries (pairs bs) ≡ Some es → label_of l ≡ Some m

@@ -20,7 +20,8 @@ use Rattle.coset_headers.specs.Headers.{at, HasHeader, HasProtected, HasSignatur
 use Rattle.coset_headers.specs.Parts.{plain_of, signs_of}
 use Rattle.coset_headers.specs.Short.{IsShort, ShowsShort, SignatureShort, AllShort}
 use Rattle.coset_headers.specs.View.{header_view, protected_view, signature_view, signatures_view, entry_view}
-use Rattle.coset_headers.specs.Written.{entry_of, crit_value, bytes_value, values_of, entries_from, written_entries, entry_tree, bare_or_list, header_tree, shown, signature_tree, signature_trees, is_empty}
+use Rattle.coset_headers.specs.Written.{entry_of, crit_value, bytes_value, written_entries, entry_tree, bare_or_list, header_tree, shown, signature_tree, signature_trees, is_empty}
+use Rattle.coset_headers.specs.Values.{values_of, entries_from}
 use Rattle.coset_headers.specs.declared.header.Header.{Header, out-Header}
 use Rattle.coset_headers.specs.declared.header.ProtectedHeader.{ProtectedHeader, out-ProtectedHeader}
 use Rattle.coset_headers.specs.declared.header.CoseSignature.{CoseSignature, out-CoseSignature}

@@ -15,7 +15,8 @@ use Rattle.coset_headers.specs.Fields.{Plain, header, no_plain, no_header, Signa
 use Rattle.coset_headers.specs.Headers.{is_at, is_core, at, IsIn, others, IsPlain, HasSigned}
 use Rattle.coset_headers.specs.Parts.{plain_of, signs_of, SeesLabels, Sees, SeesMany, IsFresh, Known}
 use Rattle.coset_headers.specs.View.{header_view, entry_view}
-use Rattle.coset_headers.specs.Written.{values_of, is_unsigned}
+use Rattle.coset_headers.specs.Written.{is_unsigned}
+use Rattle.coset_headers.specs.Values.{values_of}
 use Rattle.coset_headers.specs.declared.header.Header.{Header}
 use Rattle.coset_headers.proofs.Alike.{header_is}
 use Rattle.coset_headers.proofs.Entered.{cond_none, bool_cases, alike, none_plain, others_core, others_more, values_at, values_read}

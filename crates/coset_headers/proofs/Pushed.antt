@@ -18,7 +18,8 @@ use Rattle.coset_labels.specs.declared.error.CoseError.TheVariants.{Memory}
 use Rattle.coset_labels.specs.declared.label.Label.{Label}
 use Rattle.coset_headers.specs.Fields.{Plain}
 use Rattle.coset_headers.specs.View.{entry_view}
-use Rattle.coset_headers.specs.Written.{entry_of, values_of, crit_entry, bare_or_list, written_entries, entry_tree, tree_of, header_of, twice}
+use Rattle.coset_headers.specs.Written.{entry_of, crit_entry, bare_or_list, written_entries, entry_tree, tree_of, header_of, twice}
+use Rattle.coset_headers.specs.Values.{values_of}
 use Rattle.coset_headers.proofs.Wrote.{value_at}
 
 names_written : (ns : List Named) → all_written (λ f. Some (named_tree f)) ns ≡ Some (map named_tree ns)

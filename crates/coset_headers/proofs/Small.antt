@@ -10,7 +10,8 @@ use Rattle.coset_labels.specs.Labels.{label_tree}
 use Rattle.coset_headers.specs.Fields.{Plain, HeaderFields, header, protected, ProtectedFields, SignatureFields, signature, Signatures, no_signatures, signature_more}
 use Rattle.coset_headers.specs.Headers.{list_of_three}
 use Rattle.coset_headers.specs.Short.{IsShort, ShowsShort, SignatureShort, AllShort}
-use Rattle.coset_headers.specs.Written.{entry_of, values_of, entries_from, written_entries, entry_tree, tree_of, bare_or_list, header_tree, shown, signature_tree, signature_trees, is_nil, all_absent, is_empty}
+use Rattle.coset_headers.specs.Written.{entry_of, written_entries, entry_tree, tree_of, bare_or_list, header_tree, shown, signature_tree, signature_trees, is_nil, is_empty}
+use Rattle.coset_headers.specs.Values.{values_of, entries_from, all_absent}
 use Rattle.coset_headers.proofs.Again.{header_parts, signature_parts, trees_parts}
 
 -- ---- lengths

@@ -9,7 +9,8 @@ use Rattle.coset_labels.specs.Facts.Sound as sound
 pub use Rattle.coset_labels.specs.Facts.Sound.{folds_all, Sound, SoundAll, SoundPairs, AllSound, deeper, array_inside, map_inside, array_sound, map_sound, all_none, all_more, all_parts, bytes_sound, label_sound, named_sound, names_sound, kept_sound, sound_append, reads_sound, sound_reads}
 use Rattle.coset_headers.specs.Fields.{Plain, HeaderFields, header, SignatureFields, signature, Signatures, no_signatures, signature_more}
 use Rattle.coset_headers.specs.Headers.{is_at, is_core, entries, at, others, IsPlain, list_of_three, HasHeader, HasSignature, HasSigned, HasSignatures}
-use Rattle.coset_headers.specs.Written.{name_entry, bytes_entry, entry_of, entries_from, written_entries, entry_tree, bare_or_list, header_tree, shown, signature_tree, signature_trees}
+use Rattle.coset_headers.specs.Written.{name_entry, bytes_entry, entry_of, written_entries, entry_tree, bare_or_list, header_tree, shown, signature_tree, signature_trees}
+use Rattle.coset_headers.specs.Values.{entries_from}
 use Rattle.coset_headers.proofs.Again.{header_parts, signature_parts, trees_parts}
 use Rattle.coset_headers.proofs.Entered.{values_at, fields_are}
 

@@ -6,7 +6,8 @@ use Rattle.coset_labels.specs.Fields.{Named}
 use Rattle.coset_labels.specs.Labels.{named_tree}
 use Rattle.coset_headers.specs.Parts.{plain_of, signs_of}
 use Rattle.coset_headers.specs.View.{header_view, signatures_view}
-use Rattle.coset_headers.specs.Written.{crit_value, bytes_value, values_of, is_nil, is_unsigned, all_absent, is_empty}
+use Rattle.coset_headers.specs.Written.{crit_value, bytes_value, is_nil, is_unsigned, is_empty}
+use Rattle.coset_headers.specs.Values.{values_of, all_absent}
 use Rattle.coset_headers.specs.declared.header.CoseSignature.{CoseSignature}
 use Rattle.coset_headers.specs.declared.header.Header.{Header}
 use Rattle.coset_headers.proofs.Alike.{header_is}

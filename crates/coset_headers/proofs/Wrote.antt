@@ -7,7 +7,8 @@ use Rattle.coset_labels.specs.Fields.{LabelFields, number, words}
 use Rattle.coset_labels.specs.Labels.{is_i64, label_of, label_tree}
 use Rattle.coset_headers.specs.Fields.{Plain}
 use Rattle.coset_headers.specs.Headers.{is_at, is_core, entries, at, IsIn, Distinct, others, IsPlain}
-use Rattle.coset_headers.specs.Written.{values_of, entries_from, written_entries, entry_tree}
+use Rattle.coset_headers.specs.Written.{written_entries, entry_tree}
+use Rattle.coset_headers.specs.Values.{values_of, entries_from}
 use Rattle.coset_headers.proofs.Entered.{bool_cases, cond_none, less, unlike, alike, core_at, not_at, values_at, values_read, kept_plain}
 
 -- ---- labels that are read are written as what they were

@@ -1,4 +1,5 @@
 pub mod Unsent
+pub mod Values
 pub mod AsWritten
 pub mod Copies
 pub mod Entries

@@ -1,7 +1,7 @@
 -- The value that stands for the fields of a header or a signature, and the bytes that structures
 -- and messages show for a protected header (RFC 9052, sections 3 and 3.1). There is none if a label
 -- is repeated in a `rest` that is written.
-use Rattle.std.specs.Prelude.{ℕ, suc, pos, List, [], ◌∷◌, ◌++◌, map, Bool, true, false, ◌||◌, ◌&&◌, if◌then◌else◌, not, Option, Some, None, is_some, option_map, option_and_then}
+use Rattle.std.specs.Prelude.{ℕ, pos, List, [], ◌∷◌, ◌++◌, map, Bool, true, false, ◌||◌, ◌&&◌, if◌then◌else◌, not, Option, Some, None, is_some, option_map, option_and_then}
 use Rattle.std.specs.Ordering.{is_eq}
 use Rattle.ciborium_value.specs.Tree.{Tree, bytes, array, map as map_tree, Trees, no_trees, one_more}
 use Rattle.ciborium_value.specs.View.{trees, pairs}
@@ -9,13 +9,13 @@ use Rattle.ciborium_value.specs.Encoding.{enc}
 use Rattle.coset_labels.specs.Fields.{LabelFields, number, Named}
 use Rattle.coset_labels.specs.Labels.{label_tree, named_tree}
 use Rattle.coset_labels.specs.Orders.{label_cmp}
+use Rattle.coset_labels.specs.Table as table
 use Rattle.coset_headers.specs.Fields.{Plain, HeaderFields, header, ProtectedFields, protected, SignatureFields, signature, Signatures, no_signatures, signature_more}
 use Rattle.coset_headers.specs.Headers.{list_of_three}
 
 -- the entry with the label n, if there is a value for it
 abbrev pub entry_of : ℕ → Option Tree → List (LabelFields × Tree)
-entry_of n None = []
-entry_of n (Some t) = (number (pos n), t) ∷ []
+entry_of = table.entry_of (λ n. number (pos n))
 
 -- the values of fields; an empty one has none
 abbrev pub crit_value : List Named → Option Tree
@@ -26,20 +26,18 @@ abbrev pub bytes_value : List ℕ → Option Tree
 bytes_value [] = None
 bytes_value (x ∷ xs) = Some (bytes (x ∷ xs))
 
--- the values at the labels 1 to 6
-abbrev pub values_of : Plain → List (Option Tree)
-values_of p = option_map named_tree p.alg ∷ crit_value p.crit ∷ option_map named_tree p.content_type ∷ bytes_value p.key_id
-    ∷ bytes_value p.iv ∷ bytes_value p.partial_iv ∷ []
+-- the fields at their labels, each with its value if it is set; o is that of the counter signatures
+abbrev pub fields_of : Plain → Option Tree → List (ℕ × Option Tree)
+fields_of p o = (1, option_map named_tree p.alg) ∷ (2, crit_value p.crit) ∷ (3, option_map named_tree p.content_type)
+    ∷ (4, bytes_value p.key_id) ∷ (5, bytes_value p.iv) ∷ (6, bytes_value p.partial_iv) ∷ (7, o) ∷ []
 
--- the entries of values whose labels count up from n, and then the entries es
-abbrev pub entries_from : ℕ → List (Option Tree) → List (LabelFields × Tree) → List (LabelFields × Tree)
-entries_from n [] es = es
-entries_from n (o ∷ os) es = entry_of n o ++ entries_from (suc n) os es
+-- the entries of the fields that are set, and then the entries es
+abbrev pub entries_of : List (ℕ × Option Tree) → List (LabelFields × Tree) → List (LabelFields × Tree)
+entries_of = table.entries_of (λ n. number (pos n))
 
--- the entries in their fixed order, those of empty fields left away; o is the value of the counter
--- signatures
+-- the entries in their fixed order, those of empty fields left away
 abbrev pub written_entries : Plain → Option Tree → List (LabelFields × Tree)
-written_entries p o = entries_from 1 (values_of p ++ o ∷ []) p.rest
+written_entries p o = entries_of (fields_of p o) p.rest
 
 -- the entry of one field alone
 abbrev pub name_entry : ℕ → Option Named → List (LabelFields × Tree)
@@ -83,13 +81,13 @@ abbrev pub is_unsigned : Signatures → Bool
 is_unsigned no_signatures = true
 is_unsigned (signature_more s ss) = false
 
-abbrev pub all_absent : List (Option Tree) → Bool
-all_absent [] = true
-all_absent (o ∷ os) = not (is_some o) && all_absent os
+abbrev pub none_set : List (ℕ × Option Tree) → Bool
+none_set [] = true
+none_set (f ∷ fs) = not (is_some f.1) && none_set fs
 
 -- no field is set
 abbrev pub is_empty : HeaderFields → Bool
-is_empty (header p ss) = all_absent (values_of p) && (is_unsigned ss && is_nil p.rest)
+is_empty (header p ss) = none_set (fields_of p None) && (is_unsigned ss && is_nil p.rest)
 
 abbrev mutual
   pub header_tree : HeaderFields → Option Tree

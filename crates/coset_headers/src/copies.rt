@@ -32,7 +32,7 @@ pub(crate) fn clone_crit(
     ensures { IfOk result (λ copies. map (named_view header_parameters.number) copies.items
         ≡ map (named_view header_parameters.number) crit.now) }
 {
-    let mut copies = Vec::new(alloc);
+    let mut copies = Vec::with_capacity(alloc, crit.len())?;
     for name in crit {
         copies.push(name.clone(alloc)?)?;
     }

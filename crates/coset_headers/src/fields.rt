@@ -16,7 +16,8 @@ ghost use Rattle.coset_headers.specs.Parts.{plain_of, signs_of, IsFresh, Known, 
 ghost use Rattle.coset_headers.specs.Parts.{Sees, SeesMany, WrongFill};
 ghost use Rattle.coset_headers.specs.Same.{same_plain};
 ghost use Rattle.coset_headers.specs.View.{entry_view, header_view};
-ghost use Rattle.coset_headers.specs.Written.{header_of, is_empty, values_of};
+ghost use Rattle.coset_headers.specs.Written.{header_of, is_empty};
+ghost use Rattle.coset_headers.specs.Values.{values_of};
 
 use crate::copies::{clone_content_type, clone_crit};
 use crate::entries::{
@@ -131,7 +132,7 @@ impl Header {
             key_id: self.key_id.as_slice().to_vec(alloc)?,
             iv: self.iv.as_slice().to_vec(alloc)?,
             partial_iv: self.partial_iv.as_slice().to_vec(alloc)?,
-            counter_signatures: Vec::new(alloc),
+            counter_signatures: Vec::with_capacity(alloc, self.counter_signatures.len())?,
             rest: clone_entries(alloc, &self.rest)?,
         })
     }

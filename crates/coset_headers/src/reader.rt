@@ -23,7 +23,7 @@ use crate::fields::place_of;
 use crate::header::{CoseSignature, Header, ProtectedHeader};
 use crate::values::is_bare;
 use ciborium_value::Value;
-use coset_labels::tuples::three;
+use coset_labels::tuples::{count_structures, three};
 use coset_labels::{AsCborValue, CoseError, Label, SeenLabels, ValueTryAs, read_to_value};
 use std::alloc::Global;
 use std::mem;
@@ -212,11 +212,12 @@ impl HeaderReader {
         ensures left { OnOk result (work self.new < work self.old + 2 * weight (view value)) }
     {
         let items = value.try_as_array()?;
-        let done = Vec::new(self.alloc);
         if is_bare(&items)? {
+            let done = Vec::with_capacity(self.alloc, 1)?;
             let left = Vec::new(self.alloc).into_iter();
             return self.begin(into, Value::Array(items), SignatureList { left, done });
         }
+        let done = Vec::with_capacity(self.alloc, count_structures(&items))?;
         let mut left = items.into_iter();
         match left.next() {
             Some(first) => self.begin(into, first, SignatureList { left, done }),

@@ -54,7 +54,7 @@ fn read_parameters(alloc: Global, items: Vec<Value>) -> Result<Vec<Parameter>, C
         ≡ Some (map (named_view header_parameters.number) v.items))
         (λ e. OrMemory (WrongCrit (spec.array (views items.items))) e) }
 {
-    let mut names = Vec::new(alloc);
+    let mut names = Vec::with_capacity(alloc, items.len())?;
     'names: for item in items {
         let name = Parameter::from_cbor_value(alloc, item)?;
         names.push(name)?;

@@ -69,7 +69,7 @@ fn take_signatures(
         (λ v. signature_trees (signatures_view signatures.old.items) ≡ Some (views v.items))
         (λ e. CantWrite (signature_trees (signatures_view signatures.old.items)) e) }
 {
-    let mut values = Vec::new(alloc);
+    let mut values = Vec::with_capacity(alloc, signatures.len())?;
     'signatures: for signature in signatures.iter_mut() {
         let value = take_signature(alloc, signature)?;
         values.push(value)?;

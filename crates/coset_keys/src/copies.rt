@@ -43,7 +43,7 @@ impl CoseKeySet {
 fn clone_keys(alloc: Global, keys: &[CoseKey]) -> Result<Vec<CoseKey>, AllocError>
     ensures { IfOk result (λ copies. map key_view copies.items ≡ map key_view keys.now) }
 {
-    let mut copies = Vec::new(alloc);
+    let mut copies = Vec::with_capacity(alloc, keys.len())?;
     for key in keys {
         copies.push(key.clone(alloc)?)?;
     }

@@ -97,7 +97,7 @@ fn write_operations(
         ≡ map named_tree (map (registered_view key_operations.number) operations.keys))
         (λ e. e ≡ Memory) }
 {
-    let mut items = Vec::new(alloc);
+    let mut items = Vec::with_capacity(alloc, operations.len())?;
     'operations: for operation in operations {
         items.push(operation.to_cbor_value(alloc)?)?;
     }

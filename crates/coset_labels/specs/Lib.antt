@@ -2,7 +2,7 @@ pub mod Arrays
 pub mod Converting
 pub mod Entries
 pub mod ErrorContent
-pub mod ErrorWords
+pub mod ErrorTexts
 pub mod Facts
 pub mod Faults
 pub mod Fields
@@ -13,5 +13,6 @@ pub mod Names
 pub mod Orders
 pub mod Reading
 pub mod SeenLabels
+pub mod Table
 pub mod View
 pub mod Walks

@@ -44,7 +44,7 @@ pub fn clone_entries<K: EntryKey>(
     ensures { IfOk result
         (λ copies. map (entry_view K.fields) copies.items ≡ map (entry_view K.fields) entries.now) }
 {
-    let mut copies = Vec::new(alloc);
+    let mut copies = Vec::with_capacity(alloc, entries.len())?;
     for entry in entries {
         let key = entry.0.clone_in(alloc)?;
         let value = entry.1.clone(alloc)?;

@@ -1,16 +1,24 @@
 //! Why a COSE structure was not read or written.
-ghost use Rattle.std.specs.Prelude.{◌≡◌};
-ghost use Rattle.coset_labels.specs.ErrorWords.{error_words};
-
 use ciborium::{de, ser};
 use std::alloc::{AllocError, AllocFailed};
 use std::fmt;
 use std::num::TryFromIntError;
 
 /// The end of the bytes. In a `CoseError` it stands for each fault of a reader.
-#[derive(Debug, Clone, Copy, PartialEq, Eq, thiserror::Error)]
-#[error("EndOfFile")]
+#[derive(Debug, Clone, Copy, PartialEq, Eq)]
 pub struct EndOfFile;
+
+impl fmt::Display for EndOfFile {
+    ghost use Rattle.std.specs.Prelude.{Some, codes};
+
+    ghost output = { λ _. Some (codes "EndOfFile") };
+
+    fn fmt<W: fmt::Write>(&self, f: &mut fmt::Formatter<W>) -> fmt::Result {
+        f.write_str("EndOfFile")
+    }
+}
+
+impl std::error::Error for EndOfFile {}
 
 /// Why a COSE structure was not read or written.
 #[derive(Clone, Copy, PartialEq, Eq)]
@@ -37,35 +45,26 @@ pub enum CoseError {
     TooManyLayers,
 }
 
-impl CoseError {
-    /// The words that its text begins with; they are the whole text if the error holds nothing.
-    pub fn words(self) -> &'static str
-        ensures { result.now ≡ error_words self }
-    {
-        match self {
-            CoseError::DecodeFailed(_) => "decode CBOR failure: ",
-            CoseError::DuplicateMapKey => "duplicate map key",
-            CoseError::EncodeFailed => "encode CBOR failure",
-            CoseError::ExtraneousData => "extraneous data in CBOR input",
-            CoseError::OutOfRangeIntegerValue => "out of range integer value",
-            CoseError::UnexpectedItem(_, _) => "got ",
-            CoseError::UnregisteredIanaValue => "expected recognized IANA value",
-            CoseError::UnregisteredIanaNonPrivateValue => {
-                "expected value in IANA or private use range"
-            }
-            CoseError::Memory => "out of memory",
-            CoseError::TooManyLayers => "too many protected layers",
-        }
-    }
-}
-
 impl fmt::Display for CoseError {
+    ghost use Rattle.std.specs.Prelude.{Some};
+    ghost use Rattle.coset_labels.specs.ErrorTexts.{cose_text};
+
+    ghost output = { λ error. Some (cose_text error) };
+
     fn fmt<W: fmt::Write>(&self, f: &mut fmt::Formatter<W>) -> fmt::Result {
-        f.write_str(self.words())?;
         match self {
-            CoseError::DecodeFailed(error) => write!(f, "{error}"),
-            CoseError::UnexpectedItem(got, expected) => write!(f, "{got}, expected {expected}"),
-            _ => Ok(()),
+            CoseError::DecodeFailed(error) => write!(f, "decode CBOR failure: {error}"),
+            CoseError::DuplicateMapKey => f.write_str("duplicate map key"),
+            CoseError::EncodeFailed => f.write_str("encode CBOR failure"),
+            CoseError::ExtraneousData => f.write_str("extraneous data in CBOR input"),
+            CoseError::OutOfRangeIntegerValue => f.write_str("out of range integer value"),
+            CoseError::UnexpectedItem(got, expected) => write!(f, "got {got}, expected {expected}"),
+            CoseError::UnregisteredIanaValue => f.write_str("expected recognized IANA value"),
+            CoseError::UnregisteredIanaNonPrivateValue => {
+                f.write_str("expected value in IANA or private use range")
+            }
+            CoseError::Memory => f.write_str("out of memory"),
+            CoseError::TooManyLayers => f.write_str("too many protected layers"),
         }
     }
 }

@@ -153,7 +153,7 @@ pub fn to_cbor_array<T: AsCborValue>(alloc: Global, items: Vec<T>) -> Result<Val
         (λ v. array_of T.written (map T.fields items.items) ≡ Some (view v))
         (λ e. CantWrite (array_of T.written (map T.fields items.items)) e) }
 {
-    let mut values = Vec::new(alloc);
+    let mut values = Vec::with_capacity(alloc, items.len())?;
     'items: for item in items {
         values.push(item.to_cbor_value(alloc)?)?;
     }

@@ -1,5 +1,7 @@
 //! Lists of a fixed length, as tuples. Nothing is copied.
-ghost use Rattle.std.specs.Prelude.{◌≡◌, ◌≢◌, [], ◌∷◌, length, MatchOption};
+ghost use Rattle.std.specs.Prelude.{◌≡◌, ◌≢◌, ◌≤◌, [], ◌∷◌, length, MatchOption};
+
+use ciborium_value::Value;
 
 /// The items of a list of two; none if it has another length.
 pub fn two<T: Drop>(items: Vec<T>) -> Option<(T, T)>
@@ -60,4 +62,14 @@ pub fn five<T: Drop>(items: Vec<T>) -> Option<(T, T, T, T, T)>
     let fourth = items.next()?;
     let fifth = items.next()?;
     Some((first, second, third, fourth, fifth))
+}
+
+/// How many of the items are arrays of three or more: each of them takes four bytes at least.
+pub fn count_structures(items: &[Value]) -> usize
+    ensures { result ≤ length items.now }
+{
+    items
+        .iter()
+        .filter(|item| matches!(item, Value::Array(parts) if parts.len() > 2))
+        .count()
 }

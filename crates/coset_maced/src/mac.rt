@@ -48,17 +48,12 @@ impl CoseMac {
     pub fn clone(&self, alloc: Global) -> Result<CoseMac, AllocError>
         ensures { IfOk result (λ copy. mac_view copy ≡ mac_view self.now) }
     {
-        let protected = self.protected.clone(alloc)?;
-        let unprotected = self.unprotected.clone(alloc)?;
-        let payload = clone_bytes(alloc, &self.payload)?;
-        let tag = self.tag.as_slice().to_vec(alloc)?;
-        let recipients = clone_recipients(alloc, &self.recipients)?;
         Ok(CoseMac {
-            protected,
-            unprotected,
-            payload,
-            tag,
-            recipients,
+            protected: self.protected.clone(alloc)?,
+            unprotected: self.unprotected.clone(alloc)?,
+            payload: clone_bytes(alloc, &self.payload)?,
+            tag: self.tag.as_slice().to_vec(alloc)?,
+            recipients: clone_recipients(alloc, &self.recipients)?,
         })
     }
 

@@ -45,15 +45,11 @@ impl CoseMac0 {
     pub fn clone(&self, alloc: Global) -> Result<CoseMac0, AllocError>
         ensures { IfOk result (λ copy. mac0_view copy ≡ mac0_view self.now) }
     {
-        let protected = self.protected.clone(alloc)?;
-        let unprotected = self.unprotected.clone(alloc)?;
-        let payload = clone_bytes(alloc, &self.payload)?;
-        let tag = self.tag.as_slice().to_vec(alloc)?;
         Ok(CoseMac0 {
-            protected,
-            unprotected,
-            payload,
-            tag,
+            protected: self.protected.clone(alloc)?,
+            unprotected: self.unprotected.clone(alloc)?,
+            payload: clone_bytes(alloc, &self.payload)?,
+            tag: self.tag.as_slice().to_vec(alloc)?,
         })
     }
 

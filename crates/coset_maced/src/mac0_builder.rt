@@ -9,7 +9,7 @@ ghost use Rattle.coset_maced.specs.Structure.{mac0_covered};
 ghost use Rattle.coset_maced.specs.View.{mac0_view};
 
 use crate::mac0::CoseMac0;
-use coset_headers::{Header, ProtectedHeader};
+use coset_headers::Header;
 use coset_labels::{CoseError, Fault};
 use std::alloc::Global;
 
@@ -41,10 +41,8 @@ impl CoseMac0Builder {
         ensures { mac0_so_far result
             ≡ record (mac0_so_far self) { protected = protected None (header_view header) } }
     {
-        self.message.protected = ProtectedHeader {
-            original_data: None,
-            header,
-        };
+        self.message.protected.original_data = None;
+        self.message.protected.header = header;
         self
     }
 

@@ -37,21 +37,13 @@ impl AsCborValue for CoseMac0 {
     }
 
     fn to_cbor_value(self, alloc: Global) -> Result<Value, CoseError> {
-        let CoseMac0 {
-            protected,
-            unprotected,
-            payload,
-            tag,
-        } = self;
-        let mut items = write_parts(
-            alloc,
-            Parts {
-                protected,
-                unprotected,
-                content: payload,
-            },
-        )?;
-        items.push(Value::Bytes(tag))?;
+        let parts = Parts {
+            protected: self.protected,
+            unprotected: self.unprotected,
+            content: self.payload,
+        };
+        let mut items = write_parts(alloc, parts)?;
+        items.push(Value::Bytes(self.tag))?;
         Ok(Value::Array(items))
     }
 }

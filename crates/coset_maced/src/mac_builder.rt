@@ -12,7 +12,7 @@ ghost use Rattle.coset_maced.specs.Structure.{mac_covered};
 ghost use Rattle.coset_maced.specs.View.{mac_view};
 
 use crate::mac::CoseMac;
-use coset_headers::{Header, ProtectedHeader};
+use coset_headers::Header;
 use coset_labels::{CoseError, Fault};
 use coset_recipients::CoseRecipient;
 use std::alloc::Global;
@@ -45,10 +45,8 @@ impl CoseMacBuilder {
         ensures { mac_so_far result
             ≡ record (mac_so_far self) { protected = protected None (header_view header) } }
     {
-        self.message.protected = ProtectedHeader {
-            original_data: None,
-            header,
-        };
+        self.message.protected.original_data = None;
+        self.message.protected.header = header;
         self
     }
 

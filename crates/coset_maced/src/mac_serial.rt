@@ -36,23 +36,14 @@ impl AsCborValue for CoseMac {
     }
 
     fn to_cbor_value(self, alloc: Global) -> Result<Value, CoseError> {
-        let CoseMac {
-            protected,
-            unprotected,
-            payload,
-            tag,
-            recipients,
-        } = self;
-        let mut items = write_parts(
-            alloc,
-            Parts {
-                protected,
-                unprotected,
-                content: payload,
-            },
-        )?;
-        let list = write_recipients(alloc, recipients)?;
-        items.push(Value::Bytes(tag))?;
+        let parts = Parts {
+            protected: self.protected,
+            unprotected: self.unprotected,
+            content: self.payload,
+        };
+        let mut items = write_parts(alloc, parts)?;
+        let list = write_recipients(alloc, self.recipients)?;
+        items.push(Value::Bytes(self.tag))?;
         items.push(list)?;
         Ok(Value::Array(items))
     }

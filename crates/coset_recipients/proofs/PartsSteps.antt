@@ -1,20 +1,15 @@
--- What one step of reading or writing a message shows, over plain variables.
-use Rattle.std.proofs.Common.{◌≡◌, ◌≢◌, ℕ, ◌+◌, inl, inr, List, [], ◌∷◌, ◌++◌, length, map, false, Option, Some, None, option_map, option_and_then, refl, sym, ap, subst, ◌∙◌, append_assoc, Vec, Global}
-use Rattle.std.proofs.lemmas.List.{map-append}
+-- What one step of reading a message shows, over plain variables.
+use Rattle.std.proofs.Common.{◌≡◌, ◌≢◌, ℕ, ◌+◌, inr, List, ◌∷◌, length, false, Option, sym, ap, subst, ◌∙◌}
 use Rattle.ciborium_value.specs.Tree.{Tree, array, Trees, is_bytes}
-use Rattle.ciborium_value.specs.View.{trees, view, views}
+use Rattle.ciborium_value.specs.View.{trees, views}
 use Rattle.ciborium_value.specs.declared.value.Value.{Value}
-use Rattle.ciborium_value.specs.declared.value.Value.TheVariants as code
-use Rattle.ciborium_value.proofs.Views.{view_array}
-use Rattle.coset_labels.specs.Arrays.{all_written}
 use Rattle.coset_labels.specs.Facts.Walks.{passed_on, views_count}
-use Rattle.coset_labels.specs.Faults.{CoseFault, OrMemory, CantWrite, fault_of, unexpected}
+use Rattle.coset_labels.specs.Faults.{CoseFault, OrMemory, fault_of, unexpected}
 use Rattle.ciborium_value.specs.Kinds.{is_array}
 use Rattle.coset_labels.specs.declared.error.CoseError.{CoseError}
 use Rattle.coset_headers.specs.Fields.{HeaderFields, ProtectedFields}
 use Rattle.coset_recipients.specs.PartsFields.{parts}
 use Rattle.coset_recipients.specs.PartShapes.{HasParts, HoldOf, HasWhole}
-use Rattle.coset_recipients.specs.PartsWritten.{parts_trees, whole_tree}
 use Rattle.coset_recipients.specs.WrongParts.{WrongParts, IsNoBytes, how_many, AnyWrong, WrongWhole, no_array, not_as_many, in_parts, in_lasts}
 
 -- ---- reading
@@ -39,30 +34,3 @@ whole_lasts n t Ws k x y z ls ts W e q h l at w = passed_on W (WrongWhole n t Ws
 pub whole_has : (n : ℕ) (t : Tree) (p : ProtectedFields) (u : HeaderFields) (c : Option (List ℕ)) (Ps : List (Tree → Type 0)) (k : ℕ) (x y z : Tree) (ls : List Tree) (ts : Trees) → t ≡ array ts → ts ≡ trees (x ∷ y ∷ z ∷ ls)
     → HasParts n x y z (parts p u c) k → HoldOf Ps ls → HasWhole n t (parts p u c) Ps k
 whole_has n t p u c Ps k x y z ls ts q h parts hold = record { first = x; second = y; third = z; lasts = ls; is = q ∙ ap array h; parts = parts; hold = hold }
-
--- ---- writing
-pub whole_cant : (p : ProtectedFields) (u : HeaderFields) (c : Option (List ℕ)) (os : List (Option Tree)) (e : CoseError) → CantWrite (parts_trees (parts p u c)) e → CantWrite (whole_tree (parts p u c) os) e
-whole_cant p u c os e (inl a) = inl a
-whole_cant p u c os e (inr (a, b)) = inr (a, ap (option_and_then (λ parts. option_map (λ ls. array (trees (parts ++ ls))) (all_written (λ o. o) os))) b)
-
-none_behind : {A B C : Type 0} (f : A → B → C) (o : Option A) (p : Option B) → p ≡ None → option_and_then (λ a. option_map (λ b. f a b) p) o ≡ None
-none_behind f None p e = refl
-none_behind f (Some a) p e = ap (option_map (λ b. f a b)) e
-
-pub lasts_cant : (p : ProtectedFields) (u : HeaderFields) (c : Option (List ℕ)) (os : List (Option Tree)) (e : CoseError) → CantWrite (all_written (λ o. o) os) e → CantWrite (whole_tree (parts p u c) os) e
-lasts_cant p u c os e (inl a) = inl a
-lasts_cant p u c os e (inr (a, b)) = inr (a, none_behind (λ parts ls. array (trees (parts ++ ls))) (parts_trees (parts p u c)) (all_written (λ o. o) os) b)
-
-pub whole_written : (p : ProtectedFields) (u : HeaderFields) (c : Option (List ℕ)) (os : List (Option Tree)) (vs ls : List Value) (ws : Vec Value Global) → parts_trees (parts p u c) ≡ Some (map view vs) → all_written (λ o. o) os ≡ Some (map view ls)
-    → ws.items ≡ vs ++ ls → whole_tree (parts p u c) os ≡ Some (view (code.Array ws))
-whole_written p u c os vs ls ws e f g =
-    ap (option_and_then (λ parts. option_map (λ ls. array (trees (parts ++ ls))) (all_written (λ o. o) os))) e ∙ ap (option_map (λ z. array (trees (map view vs ++ z)))) f
-    ∙ ap (λ z. Some (array (trees z))) (sym (map-append view vs ls)) ∙ ap (λ z. Some (array (views z))) (sym g) ∙ ap Some (sym (view_array ws))
-
--- one of the last items
-pub cant_inside : (f : Option Tree → Option (List Tree)) (o : Option Tree) (e : CoseError) → f None ≡ None → CantWrite o e → CantWrite (f o) e
-cant_inside f o e n (inl a) = inl a
-cant_inside f o e n (inr (a, b)) = inr (a, ap f b ∙ n)
-
-pub pushed_twice : (us vs ws : List Value) (d l : Value) → vs ≡ us ++ d ∷ [] → ws ≡ vs ++ l ∷ [] → ws ≡ us ++ d ∷ l ∷ []
-pushed_twice us vs ws d l e f = f ∙ ap (λ z. z ++ l ∷ []) e ∙ append_assoc us (d ∷ []) (l ∷ [])

@@ -17,7 +17,7 @@ use Rattle.coset_recipients.specs.PartsWritten.{parts_trees}
 use Rattle.coset_recipients.specs.Fields.{RecipientFields, recipients}
 use Rattle.coset_recipients.specs.View.{recipient_view, recipients_view}
 use Rattle.coset_recipients.specs.Walks.{parts_of}
-use Rattle.coset_recipients.specs.Written.{fourth, whole, recipient_tree, recipients_trees, list_tree}
+use Rattle.coset_recipients.specs.Written.{fourth, whole, recipient_tree, recipients_trees}
 use Rattle.coset_recipients.specs.declared.recipient.CoseRecipient.{CoseRecipient, out-CoseRecipient, roll-CoseRecipient}
 use Rattle.coset_recipients.specs.declared.recipient.CoseRecipient.TheViews.{out-roll-CoseRecipient}
 use Rattle.coset_recipients.proofs.RecipientParts.{recipient_out}
@@ -55,19 +55,11 @@ recipients_more all i x d vs ws v h e q a b =
     ∙ written_pushed recipient_tree recipient_view (take i all) x vs ws v q a b
 
 -- ---- one recipient
-none_inside : {A B C : Type 0} (f : A → B → C) (o : Option A) (p : Option B) → p ≡ None → option_and_then (λ a. option_map (λ b. f a b) p) o ≡ None
-none_inside f None p e = refl
-none_inside f (Some a) p e = ap (option_map (λ b. f a b)) e
-
 abbrev inner_of : CoseRecipient → Option Trees
 inner_of r = recipients_trees (recipients_view (out-CoseRecipient r).recipients.items)
 
 tree_out : (r : CoseRecipient) → recipient_tree (recipient_view r) ≡ option_and_then (λ parts. option_map (λ ts. whole parts ts) (inner_of r)) (parts_of r)
 tree_out r = ap recipient_tree (recipient_out r)
-
-pub inner_fault : (r : CoseRecipient) (e : CoseError) → CantWrite (inner_of r) e → CantWrite (recipient_tree (recipient_view r)) e
-inner_fault r e (inl m) = inl m
-inner_fault r e (inr (d, n)) = inr (d, tree_out r ∙ none_inside whole (parts_of r) (inner_of r) n)
 
 pub parts_fault : (r : CoseRecipient) (e : CoseError) → CantWrite (parts_of r) e → CantWrite (recipient_tree (recipient_view r)) e
 parts_fault r e (inl m) = inl m
@@ -98,6 +90,3 @@ pub wrote_four : (p : Option (List Tree)) (u v w : Vec Value Global) → p ≡ S
 wrote_four p u v w q n e =
     ap (option_map (λ parts. whole parts (views w.items))) q ∙ ap (λ z. Some (array (trees (map view u.items ++ z)))) (some_fourth w.items w refl n)
     ∙ ap (λ z. Some (array (trees z))) (sym (map-append view u.items (code.Array w ∷ []))) ∙ ap (λ z. Some (array (views z))) (sym e) ∙ ap Some (sym (view_array v))
-
-pub list_wrote : (rs : List CoseRecipient) (v : Vec Value Global) → recipients_trees (recipients_view rs) ≡ Some (views v.items) → list_tree (recipients_view rs) ≡ Some (view (code.Array v))
-list_wrote rs v e = ap (option_map array) e ∙ ap Some (sym (view_array v))

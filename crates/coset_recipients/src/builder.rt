@@ -55,10 +55,8 @@ impl CoseRecipientBuilder {
         ensures { recipient_so_far result
             ≡ with_protected (header_view header) (recipient_so_far self) }
     {
-        self.protected = ProtectedHeader {
-            original_data: None,
-            header,
-        };
+        self.protected.original_data = None;
+        self.protected.header = header;
         self
     }
 

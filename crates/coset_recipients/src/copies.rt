@@ -32,7 +32,7 @@ pub fn clone_recipients(
     ensures { IfOk result
         (λ copies. map recipient_view copies.items ≡ map recipient_view recipients.now) }
 {
-    let mut copies = Vec::new(alloc);
+    let mut copies = Vec::with_capacity(alloc, recipients.len())?;
     copy_recipients(alloc, recipients, &mut copies)?;
     Ok(copies)
 }
@@ -74,13 +74,10 @@ fn clone_plain(alloc: Global, recipient: &CoseRecipient) -> Result<CoseRecipient
     ensures { IfOk result
         (λ copy. recipient_view copy ≡ without_recipients (recipient_view recipient.now)) }
 {
-    let protected = recipient.protected.clone(alloc)?;
-    let unprotected = recipient.unprotected.clone(alloc)?;
-    let ciphertext = clone_bytes(alloc, &recipient.ciphertext)?;
     Ok(CoseRecipient {
-        protected,
-        unprotected,
-        ciphertext,
-        recipients: Vec::new(alloc),
+        protected: recipient.protected.clone(alloc)?,
+        unprotected: recipient.unprotected.clone(alloc)?,
+        ciphertext: clone_bytes(alloc, &recipient.ciphertext)?,
+        recipients: Vec::with_capacity(alloc, recipient.recipients.len())?,
     })
 }

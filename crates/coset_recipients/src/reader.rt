@@ -13,7 +13,7 @@ ghost use Rattle.coset_recipients.specs.Wrong.{WrongRecipient, WrongList};
 use crate::parts::PartValues;
 use crate::recipient::CoseRecipient;
 use ciborium_value::Value;
-use coset_labels::tuples::three;
+use coset_labels::tuples::{count_structures, three};
 use coset_labels::{CoseError, Limits, ValueTryAs};
 use std::alloc::Global;
 
@@ -25,7 +25,7 @@ pub(crate) fn read_recipient(
 ) -> Result<CoseRecipient, CoseError>
     ensures { ReadsWithin limits HasRecipient WrongRecipient (view value) recipient_view result }
 {
-    let mut recipients = Vec::new(alloc);
+    let mut recipients = Vec::with_capacity(alloc, 1)?;
     read_into(alloc, value, limits, &mut recipients)?;
     match recipients.pop() {
         Some(recipient) => Ok(recipient),
@@ -120,7 +120,7 @@ pub fn read_recipients(
         result }
 {
     let items = value.try_as_array()?;
-    let mut recipients = Vec::new(alloc);
+    let mut recipients = Vec::with_capacity(alloc, count_structures(&items))?;
     'items: for item in items {
         read_into(alloc, item, limits, &mut recipients)?;
     }

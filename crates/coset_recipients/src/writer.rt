@@ -40,7 +40,7 @@ fn take_recipients(alloc: Global, recipients: &mut [CoseRecipient]) -> Result<Ve
     ensures { Writes (recipients_trees (recipients_view recipients.old)) (λ v. views v.items)
         result }
 {
-    let mut values = Vec::new(alloc);
+    let mut values = Vec::with_capacity(alloc, recipients.len())?;
     'recipients: for recipient in recipients.iter_mut() {
         let value = take_recipient(alloc, recipient)?;
         values.push(value)?;
@@ -61,20 +61,13 @@ fn take_parts(
         ≡ Some (view v))
         (λ e. CantWrite (parts_of recipient.old) e) }
 {
-    let CoseRecipient {
-        protected,
-        unprotected,
-        ciphertext,
-        recipients: _,
-    } = mem::replace(recipient, CoseRecipient::new(alloc));
-    let mut items = write_parts(
-        alloc,
-        Parts {
-            protected,
-            unprotected,
-            content: ciphertext,
-        },
-    )?;
+    let taken = mem::replace(recipient, CoseRecipient::new(alloc));
+    let parts = Parts {
+        protected: taken.protected,
+        unprotected: taken.unprotected,
+        content: taken.ciphertext,
+    };
+    let mut items = write_parts(alloc, parts)?;
     if inner.is_empty() {
         return Ok(Value::Array(items));
     }

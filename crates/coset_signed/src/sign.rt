@@ -48,15 +48,11 @@ impl CoseSign {
     pub fn clone(&self, alloc: Global) -> Result<CoseSign, AllocError>
         ensures { IfOk result (λ copy. sign_view copy ≡ sign_view self.now) }
     {
-        let protected = self.protected.clone(alloc)?;
-        let unprotected = self.unprotected.clone(alloc)?;
-        let payload = clone_bytes(alloc, &self.payload)?;
-        let signatures = clone_signatures(alloc, &self.signatures)?;
         Ok(CoseSign {
-            protected,
-            unprotected,
-            payload,
-            signatures,
+            protected: self.protected.clone(alloc)?,
+            unprotected: self.unprotected.clone(alloc)?,
+            payload: clone_bytes(alloc, &self.payload)?,
+            signatures: clone_signatures(alloc, &self.signatures)?,
         })
     }
 

@@ -45,15 +45,11 @@ impl CoseSign1 {
     pub fn clone(&self, alloc: Global) -> Result<CoseSign1, AllocError>
         ensures { IfOk result (λ copy. sign1_view copy ≡ sign1_view self.now) }
     {
-        let protected = self.protected.clone(alloc)?;
-        let unprotected = self.unprotected.clone(alloc)?;
-        let payload = clone_bytes(alloc, &self.payload)?;
-        let signature = self.signature.as_slice().to_vec(alloc)?;
         Ok(CoseSign1 {
-            protected,
-            unprotected,
-            payload,
-            signature,
+            protected: self.protected.clone(alloc)?,
+            unprotected: self.unprotected.clone(alloc)?,
+            payload: clone_bytes(alloc, &self.payload)?,
+            signature: self.signature.as_slice().to_vec(alloc)?,
         })
     }
 

@@ -9,7 +9,7 @@ ghost use Rattle.coset_signed.specs.Structure.{sign1_covered, sign1_covered_with
 ghost use Rattle.coset_signed.specs.View.{sign1_view};
 
 use crate::sign1::CoseSign1;
-use coset_headers::{Header, ProtectedHeader};
+use coset_headers::Header;
 use coset_labels::{CoseError, Fault};
 use std::alloc::Global;
 
@@ -42,10 +42,8 @@ impl CoseSign1Builder {
         ensures { sign1_so_far result
             ≡ record (sign1_so_far self) { protected = protected None (header_view header) } }
     {
-        self.message.protected = ProtectedHeader {
-            original_data: None,
-            header,
-        };
+        self.message.protected.original_data = None;
+        self.message.protected.header = header;
         self
     }
 

@@ -37,19 +37,13 @@ impl AsCborValue for CoseSign1 {
     }
 
     fn to_cbor_value(self, alloc: Global) -> Result<Value, CoseError> {
-        let CoseSign1 {
-            protected,
-            unprotected,
-            payload,
-            signature,
-        } = self;
         let parts = Parts {
-            protected,
-            unprotected,
-            content: payload,
+            protected: self.protected,
+            unprotected: self.unprotected,
+            content: self.payload,
         };
         let mut items = write_parts(alloc, parts)?;
-        items.push(Value::Bytes(signature))?;
+        items.push(Value::Bytes(self.signature))?;
         Ok(Value::Array(items))
     }
 }

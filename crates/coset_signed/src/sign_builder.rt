@@ -12,7 +12,7 @@ ghost use Rattle.coset_signed.specs.Structure.{sign_covered, sign_covered_with};
 ghost use Rattle.coset_signed.specs.View.{sign_view};
 
 use crate::sign::CoseSign;
-use coset_headers::{CoseSignature, Header, ProtectedHeader};
+use coset_headers::{CoseSignature, Header};
 use coset_labels::{CoseError, Fault};
 use std::alloc::Global;
 
@@ -45,10 +45,8 @@ impl CoseSignBuilder {
         ensures { sign_so_far result
             ≡ record (sign_so_far self) { protected = protected None (header_view header) } }
     {
-        self.message.protected = ProtectedHeader {
-            original_data: None,
-            header,
-        };
+        self.message.protected.original_data = None;
+        self.message.protected.header = header;
         self
     }
 

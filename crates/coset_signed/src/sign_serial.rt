@@ -42,19 +42,13 @@ impl AsCborValue for CoseSign {
     }
 
     fn to_cbor_value(self, alloc: Global) -> Result<Value, CoseError> {
-        let CoseSign {
-            protected,
-            unprotected,
-            payload,
-            signatures,
-        } = self;
         let parts = Parts {
-            protected,
-            unprotected,
-            content: payload,
+            protected: self.protected,
+            unprotected: self.unprotected,
+            content: self.payload,
         };
         let mut items = write_parts(alloc, parts)?;
-        let signatures = to_cbor_array(alloc, signatures)?;
+        let signatures = to_cbor_array(alloc, self.signatures)?;
         items.push(signatures)?;
         Ok(Value::Array(items))
     }

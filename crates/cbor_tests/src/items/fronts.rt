@@ -1,7 +1,7 @@
 //! What stands at the front: an item, or the four elements of a message.
 use crate::checks::{holds, of_hex, same};
 use ciborium::de::{Error, RECURSION_LIMIT};
-use ciborium::{Decoder, Front, Value, read_front};
+use ciborium::{Decoder, Front, Spare, Value, read_front};
 use std::alloc::Global;
 use std::process::Abort;
 
@@ -41,10 +41,11 @@ fn is_tag(rt: &impl Abort, front: Front) {
 fn four_elements_come_alone(rt: HostRuntime) {
     let bytes = of_hex(&rt, rt.alloc(), "d28440a041014102d18101");
     let mut decoder = Decoder::from(bytes.as_slice());
-    let first = read_front(rt.alloc(), &mut decoder, RECURSION_LIMIT);
+    let mut spare = Spare::new(rt.alloc());
+    let first = read_front(rt.alloc(), &mut decoder, RECURSION_LIMIT, &mut spare);
     is_message(&rt, rt.alloc(), first.expect(&rt, "a message"));
-    let second = read_front(rt.alloc(), &mut decoder, RECURSION_LIMIT);
+    let second = read_front(rt.alloc(), &mut decoder, RECURSION_LIMIT, &mut spare);
     is_tag(&rt, second.expect(&rt, "an item"));
-    let end = read_front(rt.alloc(), &mut decoder, RECURSION_LIMIT);
+    let end = read_front(rt.alloc(), &mut decoder, RECURSION_LIMIT, &mut spare);
     holds(&rt, matches!(end, Err(Error::Io(_))), "an end");
 }

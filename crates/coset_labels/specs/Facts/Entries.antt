@@ -40,22 +40,7 @@ or_right : (a b : Bool) → (a || b) ≡ false → b ≡ false
 or_right true b e = let h : true ≡ false = e in cc
 or_right false b e = e
 
--- none of the numbers 1 to 5, and none of 1 to 7
-pub record NoneOfFive (f : ℕ → Bool) : Type 0 where
-  pub no_1 : f 1 ≡ false
-  pub no_2 : f 2 ≡ false
-  pub no_3 : f 3 ≡ false
-  pub no_4 : f 4 ≡ false
-  pub no_5 : f 5 ≡ false
-
-pub none_of_five : (f : ℕ → Bool) → (f 1 || (f 2 || (f 3 || (f 4 || f 5)))) ≡ false → NoneOfFive f
-none_of_five f c =
-    let c1 = or_right (f 1) _ c in
-    let c2 = or_right (f 2) _ c1 in
-    let c3 = or_right (f 3) _ c2 in
-    let c4 = or_right (f 4) _ c3 in
-    record { no_1 = or_left (f 1) _ c; no_2 = or_left (f 2) _ c1; no_3 = or_left (f 3) _ c2; no_4 = or_left (f 4) _ c3; no_5 = c4 }
-
+-- none of the numbers 1 to 7
 pub record NoneOfSeven (f : ℕ → Bool) : Type 0 where
   pub no_1 : f 1 ≡ false
   pub no_2 : f 2 ≡ false

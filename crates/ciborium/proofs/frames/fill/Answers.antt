@@ -1,9 +1,6 @@
 use Rattle.ciborium.proofs.Taking.{takes_none}
-use Rattle.ciborium.proofs.FrameLemmas.{tag_gives, whole_gives}
+use Rattle.ciborium.proofs.FrameLemmas.{tag_gives}
 use Rattle.ciborium.proofs.frames.fill.Goals as goal
 
 pub returns-in-Tag-clause-some : goal.returns-in-Tag-clause-some
 returns-in-Tag-clause-some g c = rw c.in-Tag.is (takes_none _ _ _ (tag_gives c.in-Tag.field-0 c.in-Tag.field-3 _ _ _ c.args.exact.now.holds))
-
-pub returns-in-Whole-clause-some : goal.returns-in-Whole-clause-some
-returns-in-Whole-clause-some g c = rw c.in-Whole.is (takes_none _ _ _ (whole_gives _ _ _ c.args.exact.now.holds))

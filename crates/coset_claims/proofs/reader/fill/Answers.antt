@@ -1,8 +1,8 @@
-use Rattle.std.proofs.Common.{refl, ap}
+use Rattle.std.proofs.Common.{refl, ap, option_map, Some}
 use Rattle.std.proofs.lemmas.Result.{err_from_is_err_and}
 use Rattle.ciborium_value.specs.View.{view}
 use Rattle.coset_claims.specs.Claims.{text_of, bytes_of}
-use Rattle.coset_claims.specs.Steps.{fills_issuer, fills_subject, fills_audience, fills_expiration_time, fills_not_before, fills_issued_at, fills_cwt_id}
+use Rattle.coset_claims.specs.Steps.{fills_field}
 use Rattle.coset_claims.specs.Wrong.{WrongTime, wrong_issuer, wrong_subject, wrong_audience, wrong_expiration_time, wrong_not_before, wrong_issued_at, wrong_cwt_id}
 use Rattle.coset_claims.proofs.Steps.{field_fault, field_kind}
 use Rattle.coset_claims.proofs.reader.fill.Goals as goal
@@ -43,22 +43,22 @@ returns-in_err-cwt_id-in-CwtId c =
     rw (p.1, p.2) (field_kind _ _ _ _ (wrong_cwt_id c.in_err-cwt_id-in-CwtId.ensures.1) c.in-CwtId.ensures c.in_err-cwt_id-in-CwtId.ensures.0)
 
 pub returns-in_ok-issuer-in-Issuer : goal.returns-in_ok-issuer-in-Issuer
-returns-in_ok-issuer-in-Issuer c = fills_issuer _ c.in-Issuer.ensures (ap text_of c.in_ok-issuer-in-Issuer.ensures) refl
+returns-in_ok-issuer-in-Issuer c = fills_field 1 c.in-Issuer.ensures refl (record { issuer = ap (λ t. option_map Some (text_of t)) c.in_ok-issuer-in-Issuer.ensures; subject = refl; audience = refl; expiration_time = refl; not_before = refl; issued_at = refl; cwt_id = refl; rest = refl })
 
 pub returns-in_ok-subject-in-Subject : goal.returns-in_ok-subject-in-Subject
-returns-in_ok-subject-in-Subject c = fills_subject _ c.in-Subject.ensures (ap text_of c.in_ok-subject-in-Subject.ensures) refl
+returns-in_ok-subject-in-Subject c = fills_field 2 c.in-Subject.ensures refl (record { issuer = refl; subject = ap (λ t. option_map Some (text_of t)) c.in_ok-subject-in-Subject.ensures; audience = refl; expiration_time = refl; not_before = refl; issued_at = refl; cwt_id = refl; rest = refl })
 
 pub returns-in_ok-audience-in-Audience : goal.returns-in_ok-audience-in-Audience
-returns-in_ok-audience-in-Audience c = fills_audience _ c.in-Audience.ensures (ap text_of c.in_ok-audience-in-Audience.ensures) refl
+returns-in_ok-audience-in-Audience c = fills_field 3 c.in-Audience.ensures refl (record { issuer = refl; subject = refl; audience = ap (λ t. option_map Some (text_of t)) c.in_ok-audience-in-Audience.ensures; expiration_time = refl; not_before = refl; issued_at = refl; cwt_id = refl; rest = refl })
 
 pub returns-in_ok-time-in-ExpirationTime : goal.returns-in_ok-time-in-ExpirationTime
-returns-in_ok-time-in-ExpirationTime c = fills_expiration_time _ c.in-ExpirationTime.ensures c.in_ok-time-in-ExpirationTime.ensures refl
+returns-in_ok-time-in-ExpirationTime c = fills_field 4 c.in-ExpirationTime.ensures refl (record { issuer = refl; subject = refl; audience = refl; expiration_time = ap (option_map Some) c.in_ok-time-in-ExpirationTime.ensures; not_before = refl; issued_at = refl; cwt_id = refl; rest = refl })
 
 pub returns-in_ok-time-in-NotBefore : goal.returns-in_ok-time-in-NotBefore
-returns-in_ok-time-in-NotBefore c = fills_not_before _ c.in-NotBefore.ensures c.in_ok-time-in-NotBefore.ensures refl
+returns-in_ok-time-in-NotBefore c = fills_field 5 c.in-NotBefore.ensures refl (record { issuer = refl; subject = refl; audience = refl; expiration_time = refl; not_before = ap (option_map Some) c.in_ok-time-in-NotBefore.ensures; issued_at = refl; cwt_id = refl; rest = refl })
 
 pub returns-in_ok-time-in-IssuedAt : goal.returns-in_ok-time-in-IssuedAt
-returns-in_ok-time-in-IssuedAt c = fills_issued_at _ c.in-IssuedAt.ensures c.in_ok-time-in-IssuedAt.ensures refl
+returns-in_ok-time-in-IssuedAt c = fills_field 6 c.in-IssuedAt.ensures refl (record { issuer = refl; subject = refl; audience = refl; expiration_time = refl; not_before = refl; issued_at = ap (option_map Some) c.in_ok-time-in-IssuedAt.ensures; cwt_id = refl; rest = refl })
 
 pub returns-in_ok-cwt_id-in-CwtId : goal.returns-in_ok-cwt_id-in-CwtId
-returns-in_ok-cwt_id-in-CwtId c = fills_cwt_id _ c.in-CwtId.ensures (ap bytes_of c.in_ok-cwt_id-in-CwtId.ensures) refl
+returns-in_ok-cwt_id-in-CwtId c = fills_field 7 c.in-CwtId.ensures refl (record { issuer = refl; subject = refl; audience = refl; expiration_time = refl; not_before = refl; issued_at = refl; cwt_id = ap (λ t. option_map Some (bytes_of t)) c.in_ok-cwt_id-in-CwtId.ensures; rest = refl })

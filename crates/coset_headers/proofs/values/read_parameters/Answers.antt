@@ -8,7 +8,7 @@ use Rattle.coset_headers.proofs.values.read_parameters.Goals as goal
 
 pub returns-in_err-name : goal.returns-in_err-name
 returns-in_err-name c =
-    let p = err_from_is_err_and c.from_residual.result c.from_residual.ensures.1 in
+    let p = err_from_is_err_and c.from_residual-in_err-name.result c.from_residual-in_err-name.ensures.1 in
     let turn = turned c.args.items.items c.names.yielded c.in-Some.item c.names.invariant.front (YieldsList-turn (vec_yields c.into_iter-item-iterator.result c.args.items c.into_iter-item-iterator.ensures.into_iter_gives.0 c.into_iter-item-iterator.ensures.into_iter_gives.1) c.names.yielded c.names.item-iterator c.names.yielded_by c.next.result c.next.new.self c.in-Some.item c.in-Some.is c.next.ensures.steps) in
     rw (p.1, p.2) (crit_more c.args.items.items c.names.yielded turn.0 c.in-Some.item _ turn.1 c.in_err-name.ensures)
 

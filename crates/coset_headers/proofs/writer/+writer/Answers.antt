@@ -9,7 +9,7 @@ use Rattle.coset_headers.proofs.writer.+writer.Goals as goal
 
 pub take_signatures-returns-in_err-value : goal.take_signatures-returns-in_err-value
 take_signatures-returns-in_err-value t c =
-    let p = err_from_is_err_and c.from_residual.result c.from_residual.ensures.1 in
+    let p = err_from_is_err_and c.from_residual-in_err-value.result c.from_residual-in_err-value.ensures.1 in
     let all = c.args.signatures.now.items in
     let i = c.signatures.signature-index in
     let r = c.signature-item.result in

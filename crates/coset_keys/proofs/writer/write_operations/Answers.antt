@@ -8,7 +8,7 @@ use Rattle.coset_keys.proofs.Copied.{op_pushed, same_list}
 use Rattle.coset_keys.proofs.writer.write_operations.Goals as goal
 
 pub operations-init : goal.operations-init
-operations-init c = ap (map view) c.new-items.ensures.items
+operations-init c = ap (map view) c.in_ok-items.ensures.items
 
 pub operations-preserved : goal.operations-preserved
 operations-preserved c = op_pushed (registered_view key_operations.number) c.operations.yielded c.in-Some.operation _ _ _ c.in_ok-push.ensures.items c.operations.invariant c.in_ok-to_cbor_value.ensures

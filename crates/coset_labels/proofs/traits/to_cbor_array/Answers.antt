@@ -7,7 +7,7 @@ use Rattle.coset_labels.proofs.Loops.{vec_yields, turned, moved}
 use Rattle.coset_labels.proofs.traits.to_cbor_array.Goals as goal
 
 pub items-init : goal.items-init
-items-init g c = record { front = (c.args.items.items, refl); done = ap (λ z. Some (map view z)) (sym c.new-values.ensures.items) }
+items-init g c = record { front = (c.args.items.items, refl); done = ap (λ z. Some (map view z)) (sym c.in_ok-values.ensures.items) }
 
 pub items-preserved : goal.items-preserved
 items-preserved g c =
@@ -19,6 +19,6 @@ items-preserved g c =
 
 pub returns-in_err-to_cbor_value : goal.returns-in_err-to_cbor_value
 returns-in_err-to_cbor_value g c =
-    let p = err_from_is_err_and c.from_residual.result c.from_residual.ensures.1 in
+    let p = err_from_is_err_and c.from_residual-in_err-to_cbor_value.result c.from_residual-in_err-to_cbor_value.ensures.1 in
     let turn = turned c.args.items.items c.items.yielded c.in-Some.item c.items.invariant.front (YieldsList-turn (vec_yields c.into_iter-item-iterator.result c.args.items c.into_iter-item-iterator.ensures.into_iter_gives.0 c.into_iter-item-iterator.ensures.into_iter_gives.1) c.items.yielded c.items.item-iterator c.items.yielded_by c.next.result c.next.new.self c.in-Some.item c.in-Some.is c.next.ensures.steps) in
     rw (p.1, p.2) (cant_all g.T.AsCborValue.written g.T.AsCborValue.fields c.args.items.items c.items.yielded turn.0 c.in-Some.item _ turn.1 c.in_err-to_cbor_value.ensures)

@@ -20,7 +20,7 @@ take_recipient-returns t c =
 
 pub take_recipients-returns-in_err-value : goal.take_recipients-returns-in_err-value
 take_recipients-returns-in_err-value t c =
-    let p = err_from_is_err_and c.from_residual.result c.from_residual.ensures.1 in
+    let p = err_from_is_err_and c.from_residual-in_err-value.result c.from_residual-in_err-value.ensures.1 in
     let i = c.recipients.recipient-index in
     rw (p.1, p.2) (recipients_fault c.args.recipients.now _ _ _ _ (parted c.args.recipients.now i _ c.recipient-item.result (omega arith) (c.recipients.invariant.0.1 i c.recipient-item.result (omega arith))) c.in_err-value.ensures)
 

@@ -6,7 +6,8 @@ use Rattle.cose_iana.specs.Headers.{header_parameters}
 use Rattle.coset_labels.specs.View.{registered_view, named_view}
 use Rattle.coset_headers.specs.Parts.{plain_of}
 use Rattle.coset_headers.specs.View.{signatures_view, entry_view}
-use Rattle.coset_headers.specs.Written.{is_unsigned, all_absent, values_of}
+use Rattle.coset_headers.specs.Written.{is_unsigned}
+use Rattle.coset_headers.specs.Values.{all_absent, values_of}
 use Rattle.coset_headers.specs.declared.header.Header.{out-Header}
 use Rattle.coset_headers.proofs.Unset.{name_set, crit_set, bytes_set, unset, absent, empty_by, rest_by}
 use Rattle.coset_headers.proofs.header.Header.is_empty.Goals as goal

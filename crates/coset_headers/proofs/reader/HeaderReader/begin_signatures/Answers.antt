@@ -26,15 +26,15 @@ returns-in_err-is_bare-clause-read c =
 pub returns-then-branch-clause-read : goal.returns-then-branch-clause-read
 returns-then-branch-clause-read c = λ n k t r.
     let bare = subst (λ z. IsBare (views z)) c.deref.ensures.value (rw c.if-branch.true at c.in_ok-is_bare.ensures) in
-    let items : SignatureList = record { left = c.into_iter-left.result; done = c.new-done.result } in
+    let items : SignatureList = record { left = c.into_iter-left.result; done = c.in_ok-done.done } in
     c.begin.ensures.read n k t (view c.args.value) r
     (subst (λ z. IsNext n c.args.self.now.top.layers (view c.args.value) z items) (sym (view_array c.in_ok-items.items))
     (first_alone n c.args.self.now.top.layers (view c.args.value) (views c.in_ok-items.items.items) items c.in_ok-items.ensures bare
-    c.new-done.ensures.items (c.into_iter-left.ensures.rest ∙ c.new.ensures.items)))
+    c.in_ok-done.ensures.items (c.into_iter-left.ensures.rest ∙ c.new.ensures.items)))
 
 pub returns-clause-read : goal.returns-clause-read
 returns-clause-read c = λ n k t r.
     let list = subst (λ z. IsList (views z)) c.deref.ensures.value (rw c.if-branch.false at c.in_ok-is_bare.ensures) in
     c.begin-in-Some.ensures.read n k t (view c.args.value) r
     (first_listed n c.args.self.now.top.layers (view c.args.value) c.in_ok-items.items.items c.in-Some.first _ c.in_ok-items.ensures list
-    (sym c.into_iter-left-2.ensures.rest ∙ c.in-Some.ensures.items) c.new-done.ensures.items)
+    (sym c.into_iter-left-2.ensures.rest ∙ c.in-Some.ensures.items) c.in_ok-done-2.ensures.items)

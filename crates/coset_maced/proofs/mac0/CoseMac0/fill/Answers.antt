@@ -1,7 +1,5 @@
-use Rattle.std.proofs.Common.{inr, ap, ◌∙◌}
+use Rattle.std.proofs.Common.{inr}
 use Rattle.std.proofs.lemmas.Result.{err_from_is_err_and}
-use Rattle.ciborium_value.specs.Tree.{array}
-use Rattle.ciborium_value.specs.View.{views}
 use Rattle.coset_recipients.proofs.PartsSteps.{whole_kind, whole_count}
 use Rattle.coset_maced.proofs.mac0.CoseMac0.fill.Goals as goal
 
@@ -9,9 +7,6 @@ pub returns-in_err-items-clause-read : goal.returns-in_err-items-clause-read
 returns-in_err-items-clause-read c =
     let p = err_from_is_err_and c.from_residual.result c.from_residual.ensures.1 in
     rw (p.1, p.2) (whole_kind _ _ _ _ _ c.in_err-items.ensures)
-
-pub returns-in-Some-clause-read : goal.returns-in-Some-clause-read
-returns-in-Some-clause-read c = rw (c.in_ok-items.ensures ∙ ap array (ap views c.in-Some.ensures)) c.fill_four.ensures.read
 
 pub returns-in-None-clause-read : goal.returns-in-None-clause-read
 returns-in-None-clause-read c = inr (whole_count _ _ _ _ _ c.in_ok-items.ensures c.in-None.ensures)
