@@ -96,6 +96,13 @@ impl<'a, W: Write> Write for Output<'a, W> {
         }
     }
 
+    fn write_byte(&mut self, byte: u8) -> Result<(), OutputFault> {
+        match self.writer.write_byte(byte) {
+            Ok(()) => Ok(()),
+            Err(_) => Err(OutputFault),
+        }
+    }
+
     fn flush(&mut self) -> Result<(), OutputFault> {
         match self.writer.flush() {
             Ok(()) => Ok(()),

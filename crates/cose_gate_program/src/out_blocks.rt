@@ -145,6 +145,16 @@ impl<W: io::Write> Write for OutBlocks<W> {
         }
     }
 
+    fn write_byte(&mut self, byte: u8) -> Result<(), OutputFault> {
+        if self.held.len() < self.held.capacity() {
+            let Ok(()) = self.held.push(byte) else {
+                unreachable!()
+            };
+            return Ok(());
+        }
+        self.write_all(&[byte])
+    }
+
     fn flush(&mut self) -> Result<(), OutputFault> {
         match self.flush_on() {
             Ok(()) => Ok(()),
