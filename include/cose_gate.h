@@ -8,8 +8,8 @@
  *   signal ends the process. So read the file into memory of your own, or into a sealed memfd (examples/c/sealed.h).
  * Memory: a call takes memory by malloc, realloc and free, and has given all of it back when it returns. If it runs out of memory, the last
  *   line is `stopped: memory`, in place of the one that the run ended with. A call holds one item, which a sender can make large: an item of
- *   small integers takes 32 times its bytes, one of many small signatures or recipients up to 180 times, one with recipients inside one
- *   another 444 times, and 869 times as its questions are told (docs/TIMES.md, "Memory").
+ *   small integers takes 32 times its bytes, one of many small signatures or recipients up to 180 times, and 320 times as its questions are
+ *   told (docs/TIMES.md, "Memory").
  *   cose_gate_stream_check and cose_gate_stream_ask hold no payload (the second as much of what is covered as `question` has bytes); they
  *   have no lines, and the fault is COSE_GATE_MEMORY.
  *   The three functions are those of one allocator, and malloc and realloc align to each power of two up to 16 that divides the size.
