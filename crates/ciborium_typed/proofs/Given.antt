@@ -48,7 +48,7 @@ items_more (u ∷ vs) v = ap (λ z. events (view u) ++ z) (items_more vs v) ∙ 
 
 count_more : (vs : List Value) (v : Value) → tree_count (views (vs ++ v ∷ [])) ≡ tree_count (views vs) + 1
 count_more [] v = refl
-count_more (u ∷ vs) v = ap (λ z. 1 + z) (count_more vs v) ∙ omega arith
+count_more (u ∷ vs) v = omega (arith, count_more vs v)
 
 -- an item more in an array, and the last one
 abbrev pub array_at : List Value → ℕ → List Event
@@ -67,12 +67,15 @@ array_full vs ws v n e none =
 entries_more : (vs : List (Value × Value)) (k v : Value) → events_pairs (view_pairs (vs ++ (k, v) ∷ [])) ≡ (events_pairs (view_pairs vs) ++ events (view k)) ++ events (view v)
 entries_more [] k v = ap (λ z. events (view k) ++ z) (append-nil (events (view v)))
 entries_more (u ∷ vs) k v =
-    ap (λ z. events (view u.0) ++ (events (view u.1) ++ z)) (entries_more vs k v)
-    ∙ simp append_assoc
+    let a = events (view u.0) in
+    let b = events (view u.1) in
+    let c = events_pairs (view_pairs vs) in
+    let e : a ++ (b ++ ((c ++ events (view k)) ++ events (view v))) ≡ ((a ++ (b ++ c)) ++ events (view k)) ++ events (view v) = simp append_assoc in
+    ap (λ z. a ++ (b ++ z)) (entries_more vs k v) ∙ e
 
 entry_count : (vs : List (Value × Value)) (p : Value × Value) → pair_count (view_pairs (vs ++ p ∷ [])) ≡ pair_count (view_pairs vs) + 1
 entry_count [] p = refl
-entry_count (u ∷ vs) p = ap (λ z. 1 + z) (entry_count vs p) ∙ omega arith
+entry_count (u ∷ vs) p = omega (arith, entry_count vs p)
 
 -- a value more in a map, and the last one
 abbrev pub entry_at : List (Value × Value) → Value → ℕ → List Event
