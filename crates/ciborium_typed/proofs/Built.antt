@@ -7,7 +7,7 @@ use Rattle.ciborium_value.specs.View.{trees, pairs, view, views, view_pair, view
 use Rattle.ciborium_value.specs.declared.value.Value.{Value}
 use Rattle.ciborium_traits.specs.Events as event
 use Rattle.ciborium_traits.specs.Events.{Event, events, events_all, events_pairs, Puts}
-use Rattle.ciborium_typed.specs.Given.{given_at, items_of, given, Due}
+use Rattle.ciborium_typed.specs.Given.{given_at, items_of as items_in, given, Due}
 use Rattle.ciborium_typed.specs.declared.value_sink.Level.{Level}
 use Rattle.ciborium_typed.specs.declared.value_sink.Level.TheVariants as level
 use Rattle.ciborium_typed.specs.declared.value_sink.ValueSink.{ValueSink}
@@ -213,9 +213,9 @@ at_items (t ∷ ts) us =
     ∙ at_items ts (us ++ (t ∷ []))
     ∙ ap wholes (append_assoc us (t ∷ []) ts)
 
-pub items_given : (s : ValueSink) (ts : List Tree) → given s ≡ events_all (trees ts) → map view (items_of s) ≡ ts
+pub items_given : (s : ValueSink) (ts : List Tree) → given s ≡ events_all (trees ts) → map view (items_in s) ≡ ts
 items_given s ts e =
-    let us = map view (items_of s) in
+    let us = map view (items_in s) in
     let ls = s.levels.items in
     let a : after_all (wholes []) (given s) ≡ all_begun ls (wholes us)
     = after_append (wholes []) (events_all (trees us)) (flat_map given_at ls) ∙ ap (λ z. after_all z (flat_map given_at ls)) (at_items us []) ∙ at_levels ls (wholes us) in
@@ -224,7 +224,7 @@ items_given s ts e =
 
 pub events_given : (xs : List Event) (s t : ValueSink) → Puts Due s xs t → given t ≡ given s ++ xs
 events_given xs s t p =
-    let d = p (items_of s, given s ++ xs) [] (ap (λ z. given s ++ z) (append-nil xs), ([], sym (append-nil (items_of s)))) in
+    let d = p (items_in s, given s ++ xs) [] (ap (λ z. given s ++ z) (append-nil xs), ([], sym (append-nil (items_in s)))) in
     sym (append-nil (given t)) ∙ d.0
 
 -- a sink that was given nothing and then a whole item holds this item alone

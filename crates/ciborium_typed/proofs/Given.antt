@@ -1,13 +1,20 @@
 -- What a sink was given, step by step.
-use Rattle.std.proofs.Common.{◌≡◌, ℕ, suc, ◌+◌, ◌-◌, ◌<◌, List, [], ◌∷◌, ◌++◌, refl, sym, ap, ◌∙◌, append_assoc, append-nil, length, flat_map, arith}
+use Rattle.std.proofs.Common.{◌≡◌, ◌≢◌, ℕ, suc, ◌+◌, ◌-◌, ◌<◌, List, [], ◌∷◌, ◌++◌, refl, sym, ap, ◌∙◌, append_assoc, append-nil, length, flat_map, subst, Result, OnOk, OnErr, Vec, Global, arith}
 use Rattle.std.proofs.lemmas.Grind.{flat_map-append}
-use Rattle.ciborium_value.specs.Tree.{tree_count, pair_count}
-use Rattle.ciborium_value.specs.View.{view, views, view_pairs}
+use Rattle.ciborium_value.specs.Tree as spec
+use Rattle.ciborium_value.specs.Tree.{Tree, tree_count, pair_count}
+use Rattle.ciborium_value.specs.View.{view, views, view_step, view_pairs}
 use Rattle.ciborium_value.specs.declared.value.Value.{Value}
+use Rattle.ciborium_value.specs.declared.value.Value.TheVariants as code
+use Rattle.ciborium_value.specs.declared.value.Value.TheVariants.{rolls-Null}
+use Rattle.ciborium_value.specs.declared.value.Value.TheOpen as open_value
+use Rattle.ciborium_value.specs.declared.value.Value.TheFolds.{fold-roll-Value}
+use Rattle.ciborium_value.proofs.Views.{view_array, view_map}
 use Rattle.ciborium_traits.specs.Events as event
 use Rattle.ciborium_traits.specs.Events.{Event, events, events_all, events_pairs, Puts, Stops}
 use Rattle.ciborium_typed.specs.Given.{given_at, items_of, given, Keeps, Due, Torn}
 use Rattle.ciborium_typed.specs.declared.value_sink.Level.{Level}
+use Rattle.ciborium_typed.specs.declared.value_sink.Level.TheVariants as level
 use Rattle.ciborium_typed.specs.declared.value_sink.ValueSink.{ValueSink}
 
 pub put : (s t : ValueSink) (xs : List Event) → given t ≡ given s ++ xs → Keeps (items_of s) t → Puts Due s xs t
@@ -22,6 +29,33 @@ stop s t xs i g p es d =
     let all : given t ++ (begun ++ (xs ++ es)) ≡ p.1
     = ap (λ z. z ++ (begun ++ (xs ++ es))) (g ∙ ap (λ z. events_all (views z)) i) ∙ sym (append_assoc (events_all (views (items_of s))) begun (xs ++ es)) ∙ d.0 in
     ((begun ++ (xs ++ es), all), (d.1.0, i ∙ d.1.1), g)
+
+-- the same events by another name
+pub put_as : {T E : Type 0} (r : Result T E) (s t : ValueSink) {xs ys : List Event} → xs ≡ ys → OnOk r (Puts Due s xs t) → OnOk r (Puts Due s ys t)
+put_as r s t e h = subst (λ z. OnOk r (Puts Due s z t)) e h
+
+pub stop_as : {T E : Type 0} (r : Result T E) (s t : ValueSink) {xs ys : List Event} → xs ≡ ys → OnErr r (Stops Due Torn s xs t) → OnErr r (Stops Due Torn s ys t)
+stop_as r s t e h = subst (λ z. OnErr r (Stops Due Torn s z t)) e h
+
+pub null_events : events (view code.Null) ≡ event.simple 22 ∷ []
+null_events = ap events (ap view (sym rolls-Null) ∙ fold-roll-Value Tree view_step open_value.Null)
+
+pub empty_array : (v : Vec Value Global) (n : ℕ) → v.items ≡ [] → n ≡ 0 → events (view (code.Array v)) ≡ event.array n ∷ []
+empty_array v n e none = ap events (view_array v ∙ ap (λ z. spec.array (views z)) e) ∙ ap (λ z. event.array z ∷ []) (sym none)
+
+pub empty_map : (v : Vec (Value × Value) Global) (n : ℕ) → v.items ≡ [] → n ≡ 0 → events (view (code.Map v)) ≡ event.map n ∷ []
+empty_map v n e none = ap events (view_map v ∙ ap (λ z. spec.map (view_pairs z)) e) ∙ ap (λ z. event.map z ∷ []) (sym none)
+
+one_less : (n : ℕ) → n ≢ 0 → 0 + suc (n - 1) ≡ n
+one_less n some = omega arith
+
+pub first_array : (v : Vec Value Global) (n : ℕ) → v.items ≡ [] → n ≢ 0 → given_at (level.Array v (n - 1)) ≡ event.array n ∷ []
+first_array v n e some =
+    ap (λ z. event.array (tree_count (views z) + suc (n - 1)) ∷ events_all (views z)) e ∙ ap (λ z. event.array z ∷ []) (one_less n some)
+
+pub first_map : (v : Vec (Value × Value) Global) (n : ℕ) → v.items ≡ [] → n ≢ 0 → given_at (level.Map v (n - 1)) ≡ event.map n ∷ []
+first_map v n e some =
+    ap (λ z. event.map (pair_count (view_pairs z) + suc (n - 1)) ∷ events_pairs (view_pairs z)) e ∙ ap (λ z. event.map z ∷ []) (one_less n some)
 
 -- what whole items and levels were given
 abbrev pub held : List Value → List Level → List Event

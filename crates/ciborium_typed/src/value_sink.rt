@@ -1,5 +1,5 @@
 //! Values from what is written.
-ghost use Rattle.std.specs.Prelude.{◌≡◌, List, [], ◌++◌, map, IfOk, OnOk, OnErr};
+ghost use Rattle.std.specs.Prelude.{◌≡◌, List, [], ◌++◌, map, OnOk, OnErr};
 ghost use Rattle.ciborium_value.specs.Tree.{Tree};
 ghost use Rattle.ciborium_value.specs.View.{view, views, trees};
 ghost use Rattle.ciborium_value.specs.declared.value.Value.{Value as ValueOf};
@@ -121,10 +121,10 @@ impl ValueSink {
         ensures ok { OnOk result (Puts Due self.old (given_at level) self.new) }
         ensures err { OnErr result (Stops Due Torn self.old (given_at level) self.new) }
     {
-        match self.levels.push(level) {
-            Ok(()) => Ok(()),
-            Err(_) => Err(self.give_up()),
-        }
+        let Ok(()) = self.levels.push(level) else {
+            return Err(self.give_up());
+        };
+        Ok(())
     }
 }
 

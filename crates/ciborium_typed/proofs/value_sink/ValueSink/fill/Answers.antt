@@ -1,5 +1,6 @@
 use Rattle.std.proofs.Common.{rules, arith}
 use Rattle.ciborium_value.specs.View.{view}
+use Rattle.ciborium_value.proofs.Views.{view_array, view_map}
 use Rattle.ciborium_traits.specs.Events.{events}
 use Rattle.ciborium_typed.proofs.Given.{level_on, level_kept, array_more, array_full, map_more, map_full, item_more}
 use Rattle.ciborium_typed.proofs.value_sink.ValueSink.fill.Goals as goal
@@ -12,7 +13,7 @@ returns-then-more-gt0-clause-ok c =
 pub levels-preserved-in-Array : goal.levels-preserved-in-Array
 levels-preserved-in-Array c = record {
   same = level_on c.levels.self.items.items c.levels.self.levels.items _ c.in-Some.level (events (view c.levels.item)) _ _ c.in-Some.ensures.items
-      (rw c.in-Array.is (array_full _ _ _ _ c.in_ok-push-in-Array.ensures.items (omega (arith, c.if-more-gt0.false)))) c.levels.invariant.same;
+      (rw (c.in-Array.is, view_array c.push.new.self) (array_full _ _ _ _ c.in_ok-push-in-Array.ensures.items (omega (arith, c.if-more-gt0.false)))) c.levels.invariant.same;
   whole = c.levels.invariant.whole;
 }
 
@@ -24,7 +25,7 @@ returns-then-more-gt0-2-clause-ok c =
 pub levels-preserved : goal.levels-preserved
 levels-preserved c = record {
   same = level_on c.levels.self.items.items c.levels.self.levels.items _ c.in-Some.level (events (view c.levels.item)) _ _ c.in-Some.ensures.items
-      (rw c.in-Entry.is (map_full _ _ _ _ _ c.in_ok-push-in-Entry.ensures.items (omega (arith, c.if-more-gt0-2.false)))) c.levels.invariant.same;
+      (rw (c.in-Entry.is, view_map c.push-in-Entry.new.self) (map_full _ _ _ _ _ c.in_ok-push-in-Entry.ensures.items (omega (arith, c.if-more-gt0-2.false)))) c.levels.invariant.same;
   whole = c.levels.invariant.whole;
 }
 
