@@ -146,11 +146,7 @@ fn write_item<T: Serialize, W: Write>(sink: &mut Serializer<W>, value: &T) -> Re
 
 /// A head, and bytes after it.
 #[inline(always)]
-fn write_string<W: Write>(
-    encoder: &mut Encoder<W>,
-    major: u8,
-    bytes: &[u8],
-) -> Result<(), W::Error>
+fn write_string<W: Write>(encoder: &mut Encoder<W>, major: u8, bytes: &[u8]) -> Result<(), W::Error>
     requires { major < 8 }
     ensures ok { OnOk result (Appends (W.written (writer_of encoder.old))
         (W.written (writer_of encoder.new)) (shortest major (length bytes.now) ++ bytes.now)) }
