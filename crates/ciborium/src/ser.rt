@@ -1,8 +1,8 @@
 //! Writes items.
-ghost use Rattle.std.specs.Prelude.{◌≡◌, ℕ, List, ◌++◌, OnOk, OnErr, IfErr};
+ghost use Rattle.std.specs.Prelude.{◌≡◌, ◌<◌, ℕ, List, ◌++◌, length, OnOk, OnErr, IfErr};
 ghost use Rattle.std.specs.Io.KnownBytes.{Appends};
 ghost use Rattle.ciborium_ll.specs.Device.{AppendsFront, write_failures};
-ghost use Rattle.ciborium_ll.specs.Title.{title_of};
+ghost use Rattle.ciborium_ll.specs.Title.{shortest};
 ghost use Rattle.ciborium_ll.specs.Views.{writer_of};
 ghost use Rattle.ciborium_value.specs.Encoding.{enc};
 ghost use Rattle.ciborium_value.specs.View.{number_of};
@@ -71,14 +71,14 @@ impl<W: Write> Sink for Serializer<W> {
     fn integer(&mut self, number: Integer) -> Result<(), W::Error> {
         let n = i128::from(number);
         if n < 0 {
-            self.encoder.push(Header::Negative((-1 - n) as u64))
+            self.encoder.head(1, (-1 - n) as u64)
         } else {
-            self.encoder.push(Header::Positive(n as u64))
+            self.encoder.head(0, n as u64)
         }
     }
 
     fn bytes(&mut self, bytes: &[u8]) -> Result<(), W::Error> {
-        write_string(&mut self.encoder, Header::Bytes(Some(bytes.len())), bytes)
+        write_string(&mut self.encoder, 2, bytes)
     }
 
     fn float(&mut self, float: Float) -> Result<(), W::Error> {
@@ -86,32 +86,28 @@ impl<W: Write> Sink for Serializer<W> {
     }
 
     fn text(&mut self, text: &str) -> Result<(), W::Error> {
-        write_string(
-            &mut self.encoder,
-            Header::Text(Some(text.len())),
-            text.as_bytes(),
-        )
+        write_string(&mut self.encoder, 3, text.as_bytes())
     }
 
     fn boolean(&mut self, value: bool) -> Result<(), W::Error> {
         let simple = if value { simple::TRUE } else { simple::FALSE };
-        self.encoder.push(Header::Simple(simple))
+        self.encoder.head(7, u64::from(simple))
     }
 
     fn null(&mut self) -> Result<(), W::Error> {
-        self.encoder.push(Header::Simple(simple::NULL))
+        self.encoder.head(7, u64::from(simple::NULL))
     }
 
     fn tag(&mut self, tag: u64) -> Result<(), W::Error> {
-        self.encoder.push(Header::Tag(tag))
+        self.encoder.head(6, tag)
     }
 
     fn array(&mut self, len: usize) -> Result<(), W::Error> {
-        self.encoder.push(Header::Array(Some(len)))
+        self.encoder.head(4, len as u64)
     }
 
     fn map(&mut self, len: usize) -> Result<(), W::Error> {
-        self.encoder.push(Header::Map(Some(len)))
+        self.encoder.head(5, len as u64)
     }
 }
 
@@ -150,19 +146,16 @@ fn write_item<T: Serialize, W: Write>(sink: &mut Serializer<W>, value: &T) -> Re
 
 /// A head, and bytes after it.
 #[inline(always)]
-fn write_string<W: Write>(
-    encoder: &mut Encoder<W>,
-    header: Header,
-    bytes: &[u8],
-) -> Result<(), W::Error>
+fn write_string<W: Write>(encoder: &mut Encoder<W>, major: u8, bytes: &[u8]) -> Result<(), W::Error>
+    requires { major < 8 }
     ensures ok { OnOk result (Appends (W.written (writer_of encoder.old))
-        (W.written (writer_of encoder.new)) (title_of header ++ bytes.now)) }
+        (W.written (writer_of encoder.new)) (shortest major (length bytes.now) ++ bytes.now)) }
     ensures err { OnErr result (AppendsFront (W.written (writer_of encoder.old))
-        (W.written (writer_of encoder.new)) (title_of header ++ bytes.now)) }
+        (W.written (writer_of encoder.new)) (shortest major (length bytes.now) ++ bytes.now)) }
     ensures kept { W.handle (writer_of encoder.new) ≡ W.handle (writer_of encoder.old) }
     ensures failed { W.failed (writer_of encoder.new)
         ≡ write_failures result (W.failed (writer_of encoder.old)) }
 {
-    encoder.push(header)?;
+    encoder.head(major, bytes.len() as u64)?;
     encoder.write_all(bytes)
 }

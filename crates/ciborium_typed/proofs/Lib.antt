@@ -1,3 +1,4 @@
 pub mod Built
 pub mod Foldings
+pub mod Given
 pub mod Tagged
