@@ -1,4 +1,3 @@
 pub mod Built
 pub mod Foldings
-pub mod Given
 pub mod Tagged

@@ -1,6 +1,6 @@
 pub mod Compared
 pub mod Facts
-pub mod Given
+pub mod Stacks
 pub mod Tags
 pub mod Unfolded
 pub use Rattle.ciborium_traits.specs.Back

@@ -1,16 +1,16 @@
 //! Facts about what is written and taken, for proofs. The calls change nothing.
-ghost use Rattle.std.specs.Prelude.{◌≡◌, ◌↔◌, ◌++◌, List, IsTrue, false, MatchOption};
+ghost use Rattle.std.specs.Prelude.{◌≡◌, ◌↔◌, ◌++◌, IsTrue, false, MatchOption};
 ghost use Rattle.std.specs.Cmp.{IsTotalOrder};
 ghost use Rattle.std.specs.Cmp.Lexicographic.{slice_cmp};
 ghost use Rattle.std.specs.Ordering.{nat_cmp, ordering_then};
 ghost use Rattle.ciborium_value.specs.Kinds.{is_tag};
-ghost use Rattle.ciborium_value.specs.Tree.{opens_none};
+ghost use Rattle.ciborium_value.specs.Tree.{Tree, opens_none};
 ghost use Rattle.ciborium_typed.specs.declared.bytes.ByteBuf.{ByteBuf as ByteBufOf};
 ghost use Rattle.ciborium_typed.specs.declared.value_sink.ValueSink.{ValueSink as SinkOf};
 ghost use Rattle.ciborium_traits.specs.Back.{IsTakenBack};
 ghost use Rattle.ciborium_typed.specs.Compared.{Agree};
-ghost use Rattle.ciborium_traits.specs.Events.{Event, Puts};
-ghost use Rattle.ciborium_typed.specs.Given.{given};
+ghost use Rattle.ciborium_traits.specs.Events.{events, Puts};
+ghost use Rattle.ciborium_typed.specs.Stacks.{state_of, added};
 
 use crate::bytes::ByteBuf;
 use crate::tag::{Accepted, Captured, Required};
@@ -29,10 +29,10 @@ pub fn byte_strings_are_taken_back()
     ensures { (x : ByteBufOf) → IsTakenBack ⟦<ByteBuf as Serialize>⟧ ⟦<ByteBuf as Deserialize>⟧ x }
 {}
 
-/// A value sink that took events was given these more; `into_items` says which items that makes.
+/// A value sink that took the events of an item has this item more, wherever it was awaited.
 pub fn items_are_built()
-    ensures { (es : List Event) (s s2 : SinkOf) → Puts ⟦<ValueSink as Sink>⟧.due s es s2
-        → given s2 ≡ given s ++ es }
+    ensures { (t : Tree) (s s2 : SinkOf) → Puts ⟦<ValueSink as Sink>⟧.due s (events t) s2
+        → state_of s2 ≡ added t (state_of s) }
 {}
 
 /// A value with the tag around it is taken back if the value is, and the tag is no bignum's over

@@ -1,10 +1,8 @@
 //! Values from what is written.
-ghost use Rattle.std.specs.Prelude.{◌≡◌, List, [], ◌++◌, map, OnOk, OnErr};
-ghost use Rattle.ciborium_value.specs.Tree.{Tree};
-ghost use Rattle.ciborium_value.specs.View.{view, views, trees};
-ghost use Rattle.ciborium_value.specs.declared.value.Value.{Value as ValueOf};
-ghost use Rattle.ciborium_traits.specs.Events.{Event, events, events_all, Puts, Stops};
-ghost use Rattle.ciborium_typed.specs.Given.{given, given_at, items_of, Keeps, Due, Torn};
+ghost use Rattle.std.specs.Prelude.{◌≡◌, List, [], ◌∷◌, map, Contains, IfOk, OnOk, OnErr};
+ghost use Rattle.ciborium_value.specs.View.{view};
+ghost use Rattle.ciborium_typed.specs.Stacks.{Stack, Leads, state_of, added, begun, emptied};
+ghost use Rattle.ciborium_typed.specs.Stacks.{container_of};
 
 use ciborium_ll::Float;
 use ciborium_traits::Sink;
@@ -38,7 +36,7 @@ pub struct ValueSink {
 impl ValueSink {
     /// A sink that has been given nothing.
     pub fn new(alloc: Global) -> ValueSink
-        ensures { given result ≡ [] }
+        ensures { state_of result ≡ ([], []) }
     {
         ValueSink {
             alloc,
@@ -47,12 +45,9 @@ impl ValueSink {
         }
     }
 
-    /// The whole items in order. What is not full is dropped. If it was given the events of some
-    /// items, these are the items.
+    /// The whole items in order. What is not full is dropped.
     pub fn into_items(self) -> Vec<Value>
-        ensures items { result.items ≡ items_of self }
-        ensures all { (ts : List Tree) → given self ≡ events_all (trees ts)
-            → map view result.items ≡ ts }
+        ensures { map view result.items ≡ (state_of self).1 }
     {
         self.items
     }
@@ -60,9 +55,8 @@ impl ValueSink {
     /// Puts an item into the innermost open container, and each container that is full then into
     /// the one around it, or among the whole items.
     fn fill(&mut self, item: Value) -> Result<(), AllocError>
-        ensures ok { OnOk result (given self.new ≡ given self.old ++ events (view item)) }
-        ensures kept { OnOk result (Keeps (items_of self.old) self.new) }
-        ensures err { OnErr result (items_of self.new ≡ items_of self.old) }
+        ensures ok { OnOk result (state_of self.new ≡ added (view item) (state_of self.old)) }
+        ensures err { OnErr result (emptied (state_of self.new) ≡ emptied (state_of self.old)) }
     {
         let mut item = item;
         'levels: while let Some(level) = self.levels.pop() {
@@ -98,8 +92,7 @@ impl ValueSink {
 
     /// Drops what is not whole.
     fn give_up(&mut self) -> AllocError
-        ensures items { items_of self.new ≡ items_of self.old }
-        ensures whole { given self.new ≡ events_all (views (items_of self.new)) }
+        ensures { state_of self.new ≡ emptied (state_of self.old) }
     {
         self.levels.clear();
         AllocError
@@ -107,8 +100,8 @@ impl ValueSink {
 
     /// Adds an item.
     fn add(&mut self, item: Value) -> Result<(), AllocError>
-        ensures ok { OnOk result (Puts Due self.old (events (view item)) self.new) }
-        ensures err { OnErr result (Stops Due Torn self.old (events (view item)) self.new) }
+        ensures ok { OnOk result (state_of self.new ≡ added (view item) (state_of self.old)) }
+        ensures err { OnErr result (state_of self.new ≡ emptied (state_of self.old)) }
     {
         match self.fill(item) {
             Ok(()) => Ok(()),
@@ -118,24 +111,25 @@ impl ValueSink {
 
     /// Begins a tag, an array or a map.
     fn begin(&mut self, level: Level) -> Result<(), AllocError>
-        ensures ok { OnOk result (Puts Due self.old (given_at level) self.new) }
-        ensures err { OnErr result (Stops Due Torn self.old (given_at level) self.new) }
+        ensures ok { OnOk result (state_of self.new ≡ begun (container_of level)
+            (state_of self.old)) }
+        ensures err { OnErr result (state_of self.new ≡ emptied (state_of self.old)) }
     {
-        let Ok(()) = self.levels.push(level) else {
-            return Err(self.give_up());
-        };
-        Ok(())
+        match self.levels.push(level) {
+            Ok(()) => Ok(()),
+            Err(_) => Err(self.give_up()),
+        }
     }
 }
 
 impl Sink for ValueSink {
     type Error = AllocError;
 
-    ghost Plan = { List ValueOf × List Event };
+    ghost Plan = { List Stack × Stack };
 
-    ghost due = { Due };
+    ghost due = { λ p es s. Leads p.0 p.1 es (state_of s) };
 
-    ghost torn = { Torn };
+    ghost torn = { λ p s. Contains p.0 (state_of s) };
 
     fn integer(&mut self, number: Integer) -> Result<(), AllocError> {
         self.add(Value::Integer(number))
