@@ -110,6 +110,30 @@ fn put_half<E>(list: &mut Entries, half: Value) -> Result<(), Error<E>>
     Ok(())
 }
 
+/// An array that has no space gets it for so many items at first, or for all that it claims if
+/// these are fewer.
+const FEW: usize = 4;
+
+/// Puts an item into the array.
+fn put_item<E>(list: &mut Items, item: Value) -> Result<(), Error<E>>
+    ensures count { list.new.count ≡ list.old.count }
+    ensures ok { OnOk result (list.new.items.items ≡ list.old.items.items ++ item ∷ []) }
+    ensures err { IfErr result (λ e. e ≡ Memory) }
+{
+    let few = if list.items.capacity() == 0 {
+        reserved(list.count, FEW)
+    } else {
+        0
+    };
+    let Ok(()) = list.items.reserve_exact(few) else {
+        return Err(Error::Memory);
+    };
+    let Ok(()) = list.items.push(item) else {
+        return Err(Error::Memory);
+    };
+    Ok(())
+}
+
 /// Hands a value to the innermost level. A tag is whole then, and so may be an array: it is handed
 /// on in its place to the level around it. A tag that no level is around is given back.
 fn hand<E>(
@@ -132,9 +156,7 @@ fn hand<E>(
     'levels: loop {
         match top {
             Frame::Items(list) => {
-                let Ok(()) = list.items.push(value) else {
-                    return Err(Error::Memory);
-                };
+                put_item(list, value)?;
                 if !all_read(list.count, list.items.len()) {
                     return Ok(None);
                 }
@@ -255,6 +277,31 @@ fn push_leaf<R: Read>(
             };
             Ok(())
         }
+        _ => push_other(alloc, decoder, list, at),
+    }
+}
+
+/// As `push_leaf`, of an item that is no integer.
+fn push_other<R: Read>(
+    alloc: Global,
+    decoder: &mut Decoder<R>,
+    list: &mut Items,
+    at: usize,
+) -> Result<(), Error<R::Error>>
+    requires fresh { waiting_of decoder.old ≡ None }
+    requires leaf { IsLeaf (last_head decoder.old) }
+    ensures ok { OnOk result ((v : Value)
+        × Takes (seen R.Read decoder.old) (seen R.Read decoder.new)
+        (λ b. (limit : ℕ) → ReadsAfterTitle (last_head decoder.old) limit (view v) b)
+        × (list.new.items.items ≡ list.old.items.items ++ v ∷ [])) }
+    ensures count { list.new.count ≡ list.old.count }
+    ensures err { IfErr result (λ e. (limit : ℕ)
+        → NamesFaultAfterTitle R.ends (last_head decoder.old) at (λ stop b f. Damage stop b limit f)
+        (seen R.Read decoder.old) (seen R.Read decoder.new) e) }
+    ensures leaves { Leaves R.ends (OneAfterTitle (last_head decoder.old)) result
+        (seen R.Read decoder.old) (seen R.Read decoder.new) }
+{
+    match decoder.major() {
         2 => {
             let length = decoder.head_length();
             let bytes = read_string(alloc, decoder, length, at)?;
@@ -329,6 +376,33 @@ fn put_half_leaf<R: Read>(
             };
             Ok(())
         }
+        _ => put_half_other(alloc, decoder, list, at),
+    }
+}
+
+/// As `put_half_leaf`, of an item that is no integer.
+fn put_half_other<R: Read>(
+    alloc: Global,
+    decoder: &mut Decoder<R>,
+    list: &mut Entries,
+    at: usize,
+) -> Result<(), Error<R::Error>>
+    requires fresh { waiting_of decoder.old ≡ None }
+    requires leaf { IsLeaf (last_head decoder.old) }
+    requires half { HasHalf list.old }
+    ensures ok { OnOk result ((v : Value)
+        × Takes (seen R.Read decoder.old) (seen R.Read decoder.new)
+        (λ b. (limit : ℕ) → ReadsAfterTitle (last_head decoder.old) limit (view v) b)
+        × (halves_of list.new ≡ snoc (halves_of list.old) (view v))) }
+    ensures count { list.new.count ≡ list.old.count }
+    ensures half { OnOk result (HasHalf list.new) }
+    ensures err { IfErr result (λ e. (limit : ℕ)
+        → NamesFaultAfterTitle R.ends (last_head decoder.old) at (λ stop b f. Damage stop b limit f)
+        (seen R.Read decoder.old) (seen R.Read decoder.new) e) }
+    ensures leaves { Leaves R.ends (OneAfterTitle (last_head decoder.old)) result
+        (seen R.Read decoder.old) (seen R.Read decoder.new) }
+{
+    match decoder.major() {
         2 => {
             let length = decoder.head_length();
             let bytes = read_string(alloc, decoder, length, at)?;
@@ -696,11 +770,6 @@ fn read_headed<R: Read>(
     ensures leaves { Leaves R.ends (OneAfterTitle (last_head decoder.old)) result
         (seen R.Read decoder.old) (seen R.Read decoder.new) }
 {
-    if decoder.major() == 2 {
-        let length = decoder.head_length();
-        let bytes = read_string(alloc, decoder, length, at)?;
-        return Ok(Value::Bytes(bytes));
-    }
     let header = decoder.head();
     let mut exact = Exactness { holds: false };
     read_item(alloc, decoder, header, at, limit, &mut exact, spare)
@@ -723,6 +792,11 @@ fn read_next<R: Read>(
 {
     let at = decoder.offset();
     next_head(decoder)?;
+    if decoder.major() == 2 {
+        let length = decoder.head_length();
+        let bytes = read_string(alloc, decoder, length, at)?;
+        return Ok(Value::Bytes(bytes));
+    }
     read_headed(alloc, decoder, at, limit, spare)
 }
 

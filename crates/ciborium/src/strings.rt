@@ -366,6 +366,33 @@ fn read_open<R: Read>(
     }
 }
 
+/// Texts of so many bytes at most are tested for ASCII first.
+const SHORT: usize = 32;
+
+/// Whether all bytes are ASCII.
+fn is_ascii(bytes: &[u8]) -> bool
+    ensures { IsTrue result → IsUtf8 bytes.now }
+{
+    let mut i = 0;
+    'bytes: while i < bytes.len() {
+        if bytes[i] >= 128 {
+            return false;
+        }
+        i += 1;
+    }
+    true
+}
+
+/// Whether the bytes are UTF-8.
+fn is_text(bytes: &[u8]) -> bool
+    ensures { MatchBool result (IsUtf8 bytes.now) (IsUtf8 bytes.now → ⊥) }
+{
+    if bytes.len() <= SHORT && is_ascii(bytes) {
+        return true;
+    }
+    simdutf8::basic::from_utf8(bytes).is_ok()
+}
+
 /// The text of these bytes, if they are UTF-8.
 fn text_of(bytes: Vec<u8>) -> Option<String>
     ensures none { IfNone result (IsUtf8 bytes.items → ⊥) }
@@ -373,7 +400,7 @@ fn text_of(bytes: Vec<u8>) -> Option<String>
     ensures valid { IfSome result (λ s. IsUtf8 (string_bytes s)) }
     ensures capacity { IfSome result (λ s. string_capacity s ≡ vec_capacity bytes) }
 {
-    if simdutf8::basic::from_utf8(&bytes).is_err() {
+    if !is_text(&bytes) {
         return None;
     }
     Some(unsafe { String::from_utf8_unchecked(bytes) })
