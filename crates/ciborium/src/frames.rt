@@ -110,9 +110,19 @@ fn put_half<E>(list: &mut Entries, half: Value) -> Result<(), Error<E>>
     Ok(())
 }
 
-/// An array that has no space gets it for so many items at first, or for all that it claims if
-/// these are fewer.
+/// An array without space gets it for so many items first.
 const FEW: usize = 4;
+
+/// For how many items an array gets space before the next comes: if it has none for a few, or for
+/// all that it claims if these are fewer.
+fn space_due(list: &Items) -> usize
+    ensures { result ≤ 4 }
+{
+    if list.items.capacity() == 0 {
+        return reserved(list.count, FEW);
+    }
+    0
+}
 
 /// Puts an item into the array.
 fn put_item<E>(list: &mut Items, item: Value) -> Result<(), Error<E>>
@@ -120,12 +130,8 @@ fn put_item<E>(list: &mut Items, item: Value) -> Result<(), Error<E>>
     ensures ok { OnOk result (list.new.items.items ≡ list.old.items.items ++ item ∷ []) }
     ensures err { IfErr result (λ e. e ≡ Memory) }
 {
-    let few = if list.items.capacity() == 0 {
-        reserved(list.count, FEW)
-    } else {
-        0
-    };
-    let Ok(()) = list.items.reserve_exact(few) else {
+    let space = space_due(list);
+    let Ok(()) = list.items.reserve_exact(space) else {
         return Err(Error::Memory);
     };
     let Ok(()) = list.items.push(item) else {
