@@ -88,6 +88,7 @@ impl Spare {
 }
 
 /// Puts a key, or the value of the last key, into the map.
+#[inline(always)]
 fn put_half<E>(list: &mut Entries, half: Value) -> Result<(), Error<E>>
     requires half { HasHalf list.old }
     ensures count { list.new.count ≡ list.old.count }
@@ -579,6 +580,7 @@ enum Opened {
 }
 
 /// What the item of a title opens in this space, if so many levels are left.
+#[inline(always)]
 fn opening<R: Read>(
     alloc: Global,
     decoder: &mut Decoder<R>,
@@ -760,6 +762,7 @@ pub enum Front {
 }
 
 /// The item of the head that was read, which begins at the place `at`.
+#[inline(always)]
 fn read_headed<R: Read>(
     alloc: Global,
     decoder: &mut Decoder<R>,
@@ -782,6 +785,7 @@ fn read_headed<R: Read>(
 }
 
 /// The next item.
+#[inline(always)]
 fn read_next<R: Read>(
     alloc: Global,
     decoder: &mut Decoder<R>,

@@ -170,6 +170,7 @@ fn append_held<R: Read>(
 
 /// The next bytes, so many, in one piece, in the capacity that there is for them. Those at hand are
 /// appended as they are.
+#[inline(always)]
 fn read_piece<R: Read>(
     decoder: &mut Decoder<R>,
     size: usize,
@@ -272,6 +273,7 @@ fn is_string<R: Read>(decoder: &Decoder<R>, text: bool) -> bool
 }
 
 /// The bytes of a string of this length, in their own size. A short one comes in one piece.
+#[inline(always)]
 fn read_sized<R: Read>(
     alloc: Global,
     decoder: &mut Decoder<R>,
@@ -299,6 +301,7 @@ fn read_sized<R: Read>(
 }
 
 /// The bytes of a byte string whose title, with the length given, begins at the place `at`.
+#[inline(always)]
 pub fn read_string<R: Read>(
     alloc: Global,
     decoder: &mut Decoder<R>,
@@ -407,7 +410,7 @@ fn text_of(bytes: Vec<u8>) -> Option<String>
 }
 
 /// The text of a string whose title, with the length given, begins at the place `at`.
-#[inline]
+#[inline(always)]
 pub fn read_text<R: Read>(
     alloc: Global,
     decoder: &mut Decoder<R>,
