@@ -88,6 +88,7 @@ impl Spare {
 }
 
 /// Puts a key, or the value of the last key, into the map.
+#[inline(always)]
 fn put_half<E>(list: &mut Entries, half: Value) -> Result<(), Error<E>>
     requires half { HasHalf list.old }
     ensures count { list.new.count ≡ list.old.count }
@@ -107,6 +108,36 @@ fn put_half<E>(list: &mut Entries, half: Value) -> Result<(), Error<E>>
         Some(entry) => entry.1 = half,
     }
     list.half = false;
+    Ok(())
+}
+
+/// An array without space gets it for so many items first.
+const FEW: usize = 4;
+
+/// For how many items an array gets space before the next comes: if it has none for a few, or for
+/// all that it claims if these are fewer.
+fn space_due(list: &Items) -> usize
+    ensures { result ≤ 4 }
+{
+    if list.items.capacity() == 0 {
+        return reserved(list.count, FEW);
+    }
+    0
+}
+
+/// Puts an item into the array.
+fn put_item<E>(list: &mut Items, item: Value) -> Result<(), Error<E>>
+    ensures count { list.new.count ≡ list.old.count }
+    ensures ok { OnOk result (list.new.items.items ≡ list.old.items.items ++ item ∷ []) }
+    ensures err { IfErr result (λ e. e ≡ Memory) }
+{
+    let space = space_due(list);
+    let Ok(()) = list.items.reserve_exact(space) else {
+        return Err(Error::Memory);
+    };
+    let Ok(()) = list.items.push(item) else {
+        return Err(Error::Memory);
+    };
     Ok(())
 }
 
@@ -132,9 +163,7 @@ fn hand<E>(
     'levels: loop {
         match top {
             Frame::Items(list) => {
-                let Ok(()) = list.items.push(value) else {
-                    return Err(Error::Memory);
-                };
+                put_item(list, value)?;
                 if !all_read(list.count, list.items.len()) {
                     return Ok(None);
                 }
@@ -255,6 +284,31 @@ fn push_leaf<R: Read>(
             };
             Ok(())
         }
+        _ => push_other(alloc, decoder, list, at),
+    }
+}
+
+/// As `push_leaf`, of an item that is no integer.
+fn push_other<R: Read>(
+    alloc: Global,
+    decoder: &mut Decoder<R>,
+    list: &mut Items,
+    at: usize,
+) -> Result<(), Error<R::Error>>
+    requires fresh { waiting_of decoder.old ≡ None }
+    requires leaf { IsLeaf (last_head decoder.old) }
+    ensures ok { OnOk result ((v : Value)
+        × Takes (seen R.Read decoder.old) (seen R.Read decoder.new)
+        (λ b. (limit : ℕ) → ReadsAfterTitle (last_head decoder.old) limit (view v) b)
+        × (list.new.items.items ≡ list.old.items.items ++ v ∷ [])) }
+    ensures count { list.new.count ≡ list.old.count }
+    ensures err { IfErr result (λ e. (limit : ℕ)
+        → NamesFaultAfterTitle R.ends (last_head decoder.old) at (λ stop b f. Damage stop b limit f)
+        (seen R.Read decoder.old) (seen R.Read decoder.new) e) }
+    ensures leaves { Leaves R.ends (OneAfterTitle (last_head decoder.old)) result
+        (seen R.Read decoder.old) (seen R.Read decoder.new) }
+{
+    match decoder.major() {
         2 => {
             let length = decoder.head_length();
             let bytes = read_string(alloc, decoder, length, at)?;
@@ -329,6 +383,33 @@ fn put_half_leaf<R: Read>(
             };
             Ok(())
         }
+        _ => put_half_other(alloc, decoder, list, at),
+    }
+}
+
+/// As `put_half_leaf`, of an item that is no integer.
+fn put_half_other<R: Read>(
+    alloc: Global,
+    decoder: &mut Decoder<R>,
+    list: &mut Entries,
+    at: usize,
+) -> Result<(), Error<R::Error>>
+    requires fresh { waiting_of decoder.old ≡ None }
+    requires leaf { IsLeaf (last_head decoder.old) }
+    requires half { HasHalf list.old }
+    ensures ok { OnOk result ((v : Value)
+        × Takes (seen R.Read decoder.old) (seen R.Read decoder.new)
+        (λ b. (limit : ℕ) → ReadsAfterTitle (last_head decoder.old) limit (view v) b)
+        × (halves_of list.new ≡ snoc (halves_of list.old) (view v))) }
+    ensures count { list.new.count ≡ list.old.count }
+    ensures half { OnOk result (HasHalf list.new) }
+    ensures err { IfErr result (λ e. (limit : ℕ)
+        → NamesFaultAfterTitle R.ends (last_head decoder.old) at (λ stop b f. Damage stop b limit f)
+        (seen R.Read decoder.old) (seen R.Read decoder.new) e) }
+    ensures leaves { Leaves R.ends (OneAfterTitle (last_head decoder.old)) result
+        (seen R.Read decoder.old) (seen R.Read decoder.new) }
+{
+    match decoder.major() {
         2 => {
             let length = decoder.head_length();
             let bytes = read_string(alloc, decoder, length, at)?;
@@ -499,6 +580,7 @@ enum Opened {
 }
 
 /// What the item of a title opens in this space, if so many levels are left.
+#[inline(always)]
 fn opening<R: Read>(
     alloc: Global,
     decoder: &mut Decoder<R>,
@@ -680,6 +762,7 @@ pub enum Front {
 }
 
 /// The item of the head that was read, which begins at the place `at`.
+#[inline(always)]
 fn read_headed<R: Read>(
     alloc: Global,
     decoder: &mut Decoder<R>,
@@ -696,17 +779,13 @@ fn read_headed<R: Read>(
     ensures leaves { Leaves R.ends (OneAfterTitle (last_head decoder.old)) result
         (seen R.Read decoder.old) (seen R.Read decoder.new) }
 {
-    if decoder.major() == 2 {
-        let length = decoder.head_length();
-        let bytes = read_string(alloc, decoder, length, at)?;
-        return Ok(Value::Bytes(bytes));
-    }
     let header = decoder.head();
     let mut exact = Exactness { holds: false };
     read_item(alloc, decoder, header, at, limit, &mut exact, spare)
 }
 
 /// The next item.
+#[inline(always)]
 fn read_next<R: Read>(
     alloc: Global,
     decoder: &mut Decoder<R>,
@@ -723,6 +802,11 @@ fn read_next<R: Read>(
 {
     let at = decoder.offset();
     next_head(decoder)?;
+    if decoder.major() == 2 {
+        let length = decoder.head_length();
+        let bytes = read_string(alloc, decoder, length, at)?;
+        return Ok(Value::Bytes(bytes));
+    }
     read_headed(alloc, decoder, at, limit, spare)
 }
 

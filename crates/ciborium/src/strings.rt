@@ -170,6 +170,7 @@ fn append_held<R: Read>(
 
 /// The next bytes, so many, in one piece, in the capacity that there is for them. Those at hand are
 /// appended as they are.
+#[inline(always)]
 fn read_piece<R: Read>(
     decoder: &mut Decoder<R>,
     size: usize,
@@ -272,6 +273,7 @@ fn is_string<R: Read>(decoder: &Decoder<R>, text: bool) -> bool
 }
 
 /// The bytes of a string of this length, in their own size. A short one comes in one piece.
+#[inline(always)]
 fn read_sized<R: Read>(
     alloc: Global,
     decoder: &mut Decoder<R>,
@@ -299,6 +301,7 @@ fn read_sized<R: Read>(
 }
 
 /// The bytes of a byte string whose title, with the length given, begins at the place `at`.
+#[inline(always)]
 pub fn read_string<R: Read>(
     alloc: Global,
     decoder: &mut Decoder<R>,
@@ -366,6 +369,33 @@ fn read_open<R: Read>(
     }
 }
 
+/// Texts of so many bytes at most are tested for ASCII first.
+const SHORT: usize = 32;
+
+/// Whether all bytes are ASCII.
+fn is_ascii(bytes: &[u8]) -> bool
+    ensures { IsTrue result → IsUtf8 bytes.now }
+{
+    let mut i = 0;
+    'bytes: while i < bytes.len() {
+        if bytes[i] >= 128 {
+            return false;
+        }
+        i += 1;
+    }
+    true
+}
+
+/// Whether the bytes are UTF-8.
+fn is_text(bytes: &[u8]) -> bool
+    ensures { MatchBool result (IsUtf8 bytes.now) (IsUtf8 bytes.now → ⊥) }
+{
+    if bytes.len() <= SHORT && is_ascii(bytes) {
+        return true;
+    }
+    simdutf8::basic::from_utf8(bytes).is_ok()
+}
+
 /// The text of these bytes, if they are UTF-8.
 fn text_of(bytes: Vec<u8>) -> Option<String>
     ensures none { IfNone result (IsUtf8 bytes.items → ⊥) }
@@ -373,14 +403,14 @@ fn text_of(bytes: Vec<u8>) -> Option<String>
     ensures valid { IfSome result (λ s. IsUtf8 (string_bytes s)) }
     ensures capacity { IfSome result (λ s. string_capacity s ≡ vec_capacity bytes) }
 {
-    if simdutf8::basic::from_utf8(&bytes).is_err() {
+    if !is_text(&bytes) {
         return None;
     }
     Some(unsafe { String::from_utf8_unchecked(bytes) })
 }
 
 /// The text of a string whose title, with the length given, begins at the place `at`.
-#[inline]
+#[inline(always)]
 pub fn read_text<R: Read>(
     alloc: Global,
     decoder: &mut Decoder<R>,

@@ -1,4 +1,4 @@
-use Rattle.std.proofs.Common.{◌≡◌, ◌∷◌, ◌∙◌, arith, length, refl, reverse, sym}
+use Rattle.std.proofs.Common.{◌≡◌, ◌∷◌, ◌∙◌, arith, length, reverse, sym}
 use Rattle.ciborium.proofs.FrameLemmas.{items_taken, entries_taken, array_is_closed, array_pops, tag_pops, tag_folds, goes_on, handed_on}
 use Rattle.ciborium.proofs.TurnLemmas.{staged_on, staged_half, fails_on, empty, tag_last}
 use Rattle.ciborium.proofs.Halting.{fold_not_long}
@@ -11,26 +11,26 @@ levels-init g c = record { up = record { step = λ k limit from now b s. s }; fe
 pub returns-then-not-all_read-clause-ok : goal.returns-then-not-all_read-clause-ok
 returns-then-not-all_read-clause-ok g c =
     handed_on _ (c.levels.top ∷ reverse c.levels.below.items) _ _ c.levels.value _ _ c.levels.exact.holds _ c.levels.invariant.up
-    (items_taken c.levels.top (reverse c.levels.below.items) c.in-Items.list (record { items = c.push.new.self; count = c.in-Items.list.count; room = c.in-Items.list.room }) c.levels.value c.levels.exact.holds c.in-Items.is refl c.in-Ok.ensures.items)
+    (items_taken c.levels.top (reverse c.levels.below.items) c.in-Items.list c.put_item.new.list c.levels.value c.levels.exact.holds c.in-Items.is c.put_item.ensures.count c.in_ok-put_item-in-Items.ensures.ok)
 
 pub returns-in-None-clause-ok : goal.returns-in-None-clause-ok
 returns-in-None-clause-ok g c =
     rw (empty c.pop.new.self.items (omega (arith, c.in-None.ensures.cases.1, c.pop.new.self.ok.0)) ∙ sym (empty c.levels.below.items (omega (arith, c.in-None.ensures.cases.0, c.levels.below.ok.0))))
     (handed_on _ (c.levels.top ∷ reverse c.levels.below.items) _ _ c.levels.value _ _ c.levels.exact.holds _ c.levels.invariant.up
-    (items_taken c.levels.top (reverse c.levels.below.items) c.in-Items.list (record { items = c.push.new.self; count = c.in-Items.list.count; room = c.in-Items.list.room }) c.levels.value c.levels.exact.holds c.in-Items.is refl c.in-Ok.ensures.items))
+    (items_taken c.levels.top (reverse c.levels.below.items) c.in-Items.list c.put_item.new.list c.levels.value c.levels.exact.holds c.in-Items.is c.put_item.ensures.count c.in_ok-put_item-in-Items.ensures.ok))
 
 pub closed-value-requires : goal.closed-value-requires
 closed-value-requires g c =
-    let n : c.len.result ≡ length c.push.new.self.items = omega (arith, c.len.ensures, c.push.new.self.ok.0) in
-    rw c.replace.ensures.value (array_is_closed c.levels.top (reverse c.levels.below.items) c.in-Items.list (record { items = c.push.new.self; count = c.in-Items.list.count; room = c.in-Items.list.room }) c.levels.value c.len.result c.in-Items.is refl c.in-Ok.ensures.items n
+    let n : c.len.result ≡ length c.put_item.new.list.items.items = omega (arith, c.len.ensures, c.put_item.new.list.items.ok.0) in
+    rw c.replace.ensures.value (array_is_closed c.levels.top (reverse c.levels.below.items) c.in-Items.list c.put_item.new.list c.levels.value c.len.result c.in-Items.is c.put_item.ensures.count c.in_ok-put_item-in-Items.ensures.ok n
     (sym c.all_read.ensures ∙ c.if-not-all_read.false) (staged_on _ _ _ _ _ _ c.requires.staged c.levels.invariant.up))
 
 pub levels-preserved-in-Some : goal.levels-preserved-in-Some
 levels-preserved-in-Some g c =
-    let n : c.len.result ≡ length c.push.new.self.items = omega (arith, c.len.ensures, c.push.new.self.ok.0) in
+    let n : c.len.result ≡ length c.put_item.new.list.items.items = omega (arith, c.len.ensures, c.put_item.new.list.items.ok.0) in
     record {
       up = goes_on _ (c.levels.top ∷ reverse c.levels.below.items) _ _ c.levels.value _ _ c.levels.exact.holds _ c.levels.invariant.up
-          (rw c.replace.ensures.after (array_pops c.levels.top c.in-Some.frame c.levels.below.items c.pop.new.self.items c.in-Items.list (record { items = c.push.new.self; count = c.in-Items.list.count; room = c.in-Items.list.room }) c.levels.value c.closed-value.result c.levels.exact.holds c.len.result c.in-Items.is c.in-Some.ensures.items refl c.in-Ok.ensures.items n
+          (rw c.replace.ensures.after (array_pops c.levels.top c.in-Some.frame c.levels.below.items c.pop.new.self.items c.in-Items.list c.put_item.new.list c.levels.value c.closed-value.result c.levels.exact.holds c.len.result c.in-Items.is c.in-Some.ensures.items c.put_item.ensures.count c.in_ok-put_item-in-Items.ensures.ok n
           (sym c.all_read.ensures ∙ c.if-not-all_read.false) (rw c.replace.ensures.value at c.closed-value.ensures)));
       fewer = omega (arith, c.in-Some.ensures.cases, c.levels.invariant.fewer, c.levels.below.ok.0, c.pop.new.self.ok.0);
     }
