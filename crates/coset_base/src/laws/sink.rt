@@ -1,5 +1,5 @@
 //! Laws of what is written straight from fields.
-ghost use Rattle.std.specs.Prelude.{◌≡◌, ℕ, Some, option_map};
+ghost use Rattle.std.specs.Prelude.{◌≡◌, ℕ, true, Some, option_map};
 ghost use Rattle.ciborium_value.specs.Tree.{Tree, bytes};
 ghost use Rattle.coset_headers.specs.Fields.{HeaderFields, ProtectedFields, SignatureFields};
 ghost use Rattle.coset_headers.specs.Fields.{Signatures};
@@ -7,29 +7,30 @@ ghost use Rattle.coset_headers.specs.Headers.{HasHeader, HasProtected, HasSignat
 ghost use Rattle.coset_headers.specs.Written.{header_tree, shown, signature_tree};
 ghost use Rattle.coset_headers.specs.Written.{signature_trees};
 ghost use Rattle.coset_base.specs.Put.{header_put, protected_put, signature_put, signatures_put};
-ghost use Rattle.coset_base.specs.Put.{HasReceived, ProtectedReceived, SignatureReceived};
-ghost use Rattle.coset_base.specs.Put.{AllReceived};
+ghost use Rattle.coset_headers.specs.Received.{is_received_protected, is_received_header};
+ghost use Rattle.coset_headers.specs.Received.{is_received_signature, are_received_signatures};
 
 /// What is written straight from fields that are as received is what `to_cbor_value` writes of
 /// them.
 pub fn put_is_written()
-    ensures header { (h : HeaderFields) → HasReceived h → header_tree h ≡ Some (header_put h) }
-    ensures protected { (p : ProtectedFields) → ProtectedReceived p
+    ensures header { (h : HeaderFields) → is_received_header h ≡ true
+        → header_tree h ≡ Some (header_put h) }
+    ensures protected { (p : ProtectedFields) → is_received_protected p ≡ true
         → option_map bytes (shown p) ≡ Some (protected_put p) }
-    ensures signature { (s : SignatureFields) → SignatureReceived s
+    ensures signature { (s : SignatureFields) → is_received_signature s ≡ true
         → signature_tree s ≡ Some (signature_put s) }
-    ensures signatures { (ss : Signatures) → AllReceived ss
+    ensures signatures { (ss : Signatures) → are_received_signatures ss ≡ true
         → signature_trees ss ≡ Some (signatures_put ss) }
 {}
 
 /// What was read is as received: the calls that write it straight from its fields may be made.
 pub fn read_is_received()
     ensures header { (n k : ℕ) (t : Tree) (h : HeaderFields) → HasHeader n t h k
-        → HasReceived h }
+        → is_received_header h ≡ true }
     ensures protected { (n k : ℕ) (t : Tree) (p : ProtectedFields) → HasProtected n t p k
-        → ProtectedReceived p }
+        → is_received_protected p ≡ true }
     ensures signature { (n k : ℕ) (t : Tree) (s : SignatureFields) → HasSignature n t s k
-        → SignatureReceived s }
+        → is_received_signature s ≡ true }
 {}
 
 /// What was read is written straight from its fields as the same value as by `to_cbor_value`, and a
