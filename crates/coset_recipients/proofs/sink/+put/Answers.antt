@@ -1,4 +1,4 @@
-use Rattle.std.proofs.Common.{sym, ap, subst, arith, rules}
+use Rattle.std.proofs.Common.{◌≡◌, sym, ap, subst, arith, rules, true}
 use denote.Param.Weighed.{at_most}
 use Rattle.ciborium_traits.specs.Events.{events_all}
 use Rattle.coset_recipients.specs.View.{recipient_view, recipients_view}
