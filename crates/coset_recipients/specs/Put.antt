@@ -1,7 +1,7 @@
 -- What parts and recipients are written as straight from their fields (RFC 9052, sections 4.2, 5.1
 -- and 6.2), and the events of their parts. Only what is as received is written so.
 use Rattle.std.specs.Prelude.{ℕ, List, [], ◌∷◌, ◌++◌, Bool, true, ◌&&◌}
-use Rattle.ciborium_value.specs.Tree.{Tree, bytes, array, Trees, no_trees, one_more, tree_count}
+use Rattle.ciborium_value.specs.Tree.{Tree, array, Trees, no_trees, one_more, tree_count}
 use Rattle.ciborium_value.specs.View.{trees}
 use Rattle.ciborium_traits.specs.Events as event
 use Rattle.ciborium_traits.specs.Events.{Event, events_all}
