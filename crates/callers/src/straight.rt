@@ -1,9 +1,9 @@
 //! Headers read into a place that is there, written straight from their fields, and signatures
 //! taken apart. `coset_base` and `ciborium` are the crates that it names.
-ghost use Rattle.std.specs.Prelude.{◌≡◌, ℕ, List, Some, IfOk, IfErr, option_map};
+ghost use Rattle.std.specs.Prelude.{◌≡◌, ℕ, List, true, Some, IfOk, IfErr, option_map};
 ghost use Rattle.ciborium_value.specs.View.{view};
 ghost use Rattle.coset_base.specs.Encoding.{enc};
-ghost use Rattle.coset_base.specs.Faults.{OrMemory};
+ghost use Rattle.coset_base.specs.Faults.{CantWrite, OrMemory};
 ghost use Rattle.coset_base.specs.Fields.{HeaderFields, ProtectedFields, signature};
 ghost use Rattle.coset_base.specs.Headers.{HasHeader, HasProtected};
 ghost use Rattle.coset_base.specs.LimitsView.{nesting, nesting_of, layers, layers_of};
@@ -11,8 +11,8 @@ ghost use Rattle.coset_base.specs.Reading.{HasItem, WrongItem};
 ghost use Rattle.coset_base.specs.View.{header_view, protected_view, signature_view};
 ghost use Rattle.coset_base.specs.Written.{header_tree};
 ghost use Rattle.coset_base.specs.Wrong.{WrongHeader, WrongProtected};
-ghost use Rattle.coset_base.proofs.Received.{hdr_prop};
-ghost use Rattle.coset_base.specs.Put.{HasReceived, header_put};
+ghost use Rattle.coset_base.specs.Put.{header_put};
+ghost use Rattle.coset_base.specs.Received.{is_received_header};
 
 use ciborium::ser::{Serialize, Sink};
 use ciborium::{Mem, Value, into_writer};
@@ -60,7 +60,7 @@ pub fn protected_filled(
 #[derive(Drop)]
 struct Received<'a> {
     header: &'a Header,
-    ghost received: { HasReceived (header_view header.now) } by { hdr_prop (header_view header.now) },
+    ghost received: { is_received_header (header_view header.now) ≡ true },
 }
 
 impl Serialize for Received<'_> {
@@ -76,7 +76,7 @@ impl Serialize for Received<'_> {
 /// # Errors
 /// Only when out of memory.
 pub fn written_straight(alloc: Global, header: &Header) -> Result<Vec<u8>, AllocError>
-    requires { HasReceived (header_view header.now) }
+    requires { is_received_header (header_view header.now) ≡ true }
     ensures { IfOk result (λ out.
         option_map enc (header_tree (header_view header.now)) ≡ Some out.items) }
 {
@@ -86,6 +86,22 @@ pub fn written_straight(alloc: Global, header: &Header) -> Result<Vec<u8>, Alloc
         Ok(()) => Ok(out.into_inner()),
         Err(_) => Err(AllocError),
     }
+}
+
+/// The one encoding of a header, written straight from its fields if it is as received. Of another,
+/// one that was built or changed, a copy is written.
+///
+/// # Errors
+/// `DuplicateMapKey` exactly when a label would be written twice in one map, or `Memory`.
+pub fn encoding_of(alloc: Global, header: &Header) -> Result<Vec<u8>, CoseError>
+    ensures ok { IfOk result (λ out.
+        option_map enc (header_tree (header_view header.now)) ≡ Some out.items) }
+    ensures err { IfErr result (CantWrite (header_tree (header_view header.now))) }
+{
+    if header.is_received(alloc)? {
+        return Ok(written_straight(alloc, header)?);
+    }
+    header.clone(alloc)?.to_vec(alloc)
 }
 
 /// The one encoding of the header that the bytes are, written straight from its fields.

@@ -1,10 +1,10 @@
 //! Messages that are as received, written again in their tags straight from their fields, as a gate
 //! writes them. `coset_signed`, `coset_maced`, `coset`, `cose_gate` and `ciborium` are the
 //! crates that it names.
-ghost use Rattle.std.specs.Prelude.{◌≡◌, IfOk};
+ghost use Rattle.std.specs.Prelude.{◌≡◌, true, IfOk};
 ghost use Rattle.ciborium_value.specs.Encoding.{enc};
 ghost use Rattle.cose_gate.specs.Questions.{message_text};
-ghost use Rattle.callers.specs.Tagged.{fields_of, tagged_put, AsReceived, as_received_prop};
+ghost use Rattle.callers.specs.Tagged.{fields_of, tagged_put, is_as_received};
 
 use ciborium::ser::{Serialize, Sink};
 use ciborium::{Mem, into_writer};
@@ -31,7 +31,7 @@ pub enum Message<'a> {
 #[derive(Drop)]
 struct Received<'a> {
     message: Message<'a>,
-    ghost received: { AsReceived message } by { as_received_prop message },
+    ghost received: { is_as_received message ≡ true },
 }
 
 impl Serialize for Received<'_> {
@@ -52,7 +52,7 @@ impl Serialize for Received<'_> {
 /// # Errors
 /// Only if out of memory.
 pub fn gate_text(alloc: Global, message: Message) -> Result<Vec<u8>, AllocError>
-    requires { AsReceived message }
+    requires { is_as_received message ≡ true }
     ensures { IfOk result (λ out. out.items ≡ message_text (fields_of message.entry)) }
 {
     signed::put_is_written();

@@ -1,7 +1,8 @@
 //! Calls by name.
 use crate::out::{NoAnswer, Out};
 use crate::{
-    errors, exact, items, keys, limits, messages, parts, protected, structures, tags, widest,
+    errors, exact, items, keys, limits, messages, parts, protected, received, structures, tags,
+    widest,
 };
 
 /// The next argument of a row, which has the others then.
@@ -83,6 +84,7 @@ fn of_item(to: &mut Out, call: &str, item: &str) {
         "protected-header" => protected::bstr(to, item),
         "empty-protected-header" => protected::is_empty(to, item),
         "received-bytes" => protected::received(to, item),
+        "is-received-protected-header" => received::is_protected(to, item),
         "point-of-key" => keys::point_of_key(to, item),
         "expiration-time" => parts::expiration(to, item),
         "timestamp" => parts::time(to, item),
@@ -111,6 +113,8 @@ fn two(to: &mut Out, call: &str, first: &str, second: &str) {
 fn of_two_items(to: &mut Out, call: &str, first: &str, second: &str) {
     match call {
         "same-protected-header" => protected::are_same(to, first, second),
+        "is-received-header" => received::is_header(to, first, second),
+        "is-received-signature" => received::is_signature(to, first, second),
         "sign1-tbs" => messages::sign1_covered(to, first, second),
         "sign1-verifier" => messages::sign1_handed(to, first, second),
         "sign-verifier" => messages::sign_handed(to, first, second),

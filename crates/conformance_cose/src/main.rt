@@ -13,6 +13,7 @@ mod messages;
 mod out;
 mod parts;
 mod protected;
+mod received;
 mod rows;
 mod structures;
 mod tags;

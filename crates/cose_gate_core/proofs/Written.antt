@@ -1,6 +1,6 @@
 -- A message that was read can be written, and its protected headers have the bytes that were
 -- received.
-use Rattle.std.proofs.Common.{◌≡◌, ◌≢◌, ℕ, List, [], ◌∷◌, Option, Some, None, option_map, refl, ap}
+use Rattle.std.proofs.Common.{◌≡◌, ◌≢◌, ℕ, List, [], ◌∷◌, true, Option, Some, None, option_map, refl, ap}
 use Rattle.ciborium_value.specs.Encoding.{enc}
 use Rattle.ciborium_value.specs.Tree.{Tree, tag, Trees}
 use Rattle.coset_headers.specs.Fields.{ProtectedFields, protected, SignatureFields, signature, signatures}
@@ -19,7 +19,7 @@ use Rattle.coset_signed.proofs.Received.{sign1_received, sign_received}
 use Rattle.coset_maced.proofs.Received.{mac0_received, mac_received}
 use Rattle.coset_signed.proofs.PutWritten.{sign1_written, sign_written}
 use Rattle.coset_maced.proofs.PutWritten.{mac0_written, mac_written}
-use Rattle.cose_gate_core.specs.Put.{message_put, tagged_put, AsReceived}
+use Rattle.cose_gate_core.specs.Put.{message_put, tagged_put, is_as_received}
 use Rattle.cose_gate_core.specs.Questions.{MessageFields, sign1, mac0, sign, mac, sign1_question, mac0_question, mac_question, sign_questions, all_questions, questions, message_tree, tag_of, tagged_tree, message_text, or_nothing}
 use Rattle.cose_gate_core.specs.Received.{IsReceived, AreReceived, IsReceivedMessage}
 
@@ -52,19 +52,19 @@ pub message_tagged : (l : Bounds) (u : Tree) (m : MessageFields) → HasMessage 
 message_tagged l u m h = map_some (λ t. tag (tag_of m) t) (message_tree m) (has_tree l u m h)
 
 -- and is as received; so its encoding is the one that is written straight from its fields
-pub as_received : (l : Bounds) (u : Tree) (m : MessageFields) → HasMessage l u m → AsReceived m
+pub as_received : (l : Bounds) (u : Tree) (m : MessageFields) → HasMessage l u m → is_as_received m ≡ true
 as_received l u (sign1 m) h = sign1_received l.nesting m u l.layers h
 as_received l u (mac0 m) h = mac0_received l.nesting m u l.layers h
 as_received l u (sign m) h = sign_received l.nesting m u l.layers h
 as_received l u (mac m) h = mac_received l.nesting m u l.layers h
 
-tree_is_put : (m : MessageFields) → AsReceived m → message_tree m ≡ Some (message_put m)
+tree_is_put : (m : MessageFields) → is_as_received m ≡ true → message_tree m ≡ Some (message_put m)
 tree_is_put (sign1 m) r = sign1_written m r
 tree_is_put (mac0 m) r = mac0_written m r
 tree_is_put (sign m) r = sign_written m r
 tree_is_put (mac m) r = mac_written m r
 
-pub text_is_put : (m : MessageFields) → AsReceived m → message_text m ≡ enc (tagged_put m)
+pub text_is_put : (m : MessageFields) → is_as_received m ≡ true → message_text m ≡ enc (tagged_put m)
 text_is_put m r = ap (λ o. or_nothing (option_map enc (option_map (λ t. tag (tag_of m) t) o))) (tree_is_put m r)
 
 pub judged_questions : (l : Bounds) (t : Tree) (m : MessageFields) (aad : List ℕ) → IsJudged l t m → all_questions m aad ≡ Some (questions m aad)

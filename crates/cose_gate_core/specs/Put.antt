@@ -1,10 +1,9 @@
 -- What a message is written as straight from its fields, and with its tag. Of one that was read it
 -- is what `message_tree` and `tagged_tree` give.
+use Rattle.std.specs.Prelude.{Bool}
 use Rattle.ciborium_value.specs.Tree.{Tree, tag}
-use Rattle.coset_signed.specs.Put.{sign1_put, sign_put, Sign1Received, SignReceived}
-use Rattle.coset_maced.specs.Put.{mac0_put, mac_put, Mac0Received, MacReceived}
-use Rattle.coset_signed.proofs.Received.{sign1_prop, sign_prop}
-use Rattle.coset_maced.proofs.Received.{mac0_prop, mac_prop}
+use Rattle.coset_signed.specs.Put.{sign1_put, sign_put, is_received_sign1, is_received_sign}
+use Rattle.coset_maced.specs.Put.{mac0_put, mac_put, is_received_mac0, is_received_mac}
 use Rattle.cose_gate_core.specs.Questions.{MessageFields, sign1, mac0, sign, mac, tag_of}
 
 abbrev pub message_put : MessageFields → Tree
@@ -16,16 +15,9 @@ message_put (mac m) = mac_put m
 abbrev pub tagged_put : MessageFields → Tree
 tagged_put m = tag (tag_of m) (message_put m)
 
--- it is as received, as each message that was read
-abbrev pub AsReceived : MessageFields → Type 0
-AsReceived (sign1 m) = Sign1Received m
-AsReceived (mac0 m) = Mac0Received m
-AsReceived (sign m) = SignReceived m
-AsReceived (mac m) = MacReceived m
-
--- there is at most one proof of it, so a struct may keep it
-pub as_received_prop : (m : MessageFields) → IsProp (AsReceived m)
-as_received_prop (sign1 m) = sign1_prop m
-as_received_prop (mac0 m) = mac0_prop m
-as_received_prop (sign m) = sign_prop m
-as_received_prop (mac m) = mac_prop m
+-- its headers are as received, as those of each message that was read
+abbrev pub is_as_received : MessageFields → Bool
+is_as_received (sign1 m) = is_received_sign1 m
+is_as_received (mac0 m) = is_received_mac0 m
+is_as_received (sign m) = is_received_sign m
+is_as_received (mac m) = is_received_mac m

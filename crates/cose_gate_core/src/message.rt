@@ -1,5 +1,6 @@
 //! Messages of the kinds that are judged.
-ghost use Rattle.std.specs.Prelude.{◌≡◌, Some, None, MatchBool, MatchResult, IfOk, OnOk, OnErr};
+ghost use Rattle.std.specs.Prelude.{◌≡◌, true, Some, None, MatchBool, MatchResult, IfOk};
+ghost use Rattle.std.specs.Prelude.{OnOk, OnErr};
 ghost use Rattle.ciborium_traits.specs.Events.{events, Puts, Stops};
 ghost use Rattle.ciborium_value.specs.View.{view};
 ghost use Rattle.coset_labels.specs.Faults.{OrMemory};
@@ -7,7 +8,7 @@ ghost use Rattle.coset_recipients.specs.PartsView.{four_of};
 ghost use Rattle.cose_gate_core.specs.Asked.{asked, first_no, folded_over, ToldPart};
 ghost use Rattle.cose_gate_core.specs.Findings.{Bounds, HasMessage, WrongMessage, IsCarried};
 ghost use Rattle.cose_gate_core.specs.Findings.{IsUnsigned};
-ghost use Rattle.cose_gate_core.specs.Put.{tagged_put, AsReceived};
+ghost use Rattle.cose_gate_core.specs.Put.{tagged_put, is_as_received};
 ghost use Rattle.cose_gate_core.specs.Questions.{MessageFields, kind_of, payload_of, questions};
 ghost use Rattle.cose_gate_core.specs.Questions.{message_tree};
 ghost use Rattle.cose_gate_core.specs.Received.{IsReceivedMessage};
@@ -87,7 +88,7 @@ pub trait Message: Drop + Sized {
     /// # Errors
     /// The sink's; it took a beginning of the events then, and refused the next.
     fn put<S: Sink>(&self, to: &mut S) -> Result<(), S::Error>
-        requires { AsReceived (message self.now) }
+        requires { is_as_received (message self.now) ≡ true }
         ensures ok { OnOk result (Puts S.due to.old
             (events (tagged_put (message self.now))) to.new) }
         ensures err { OnErr result (Stops S.due S.torn to.old

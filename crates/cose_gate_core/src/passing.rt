@@ -15,7 +15,7 @@ ghost use Rattle.cose_gate_core.specs.Calls.{item_rules, item_sight};
 ghost use Rattle.cose_gate_core.specs.Findings.{Bounds, judged, HasMessage, IsEncryptedTag, Finds};
 ghost use Rattle.cose_gate_core.specs.Passing.{IsRefused, IsTold, WentThrough, ItemFails};
 ghost use Rattle.cose_gate_core.specs.Passing.{IsWriteFault, item_failures};
-ghost use Rattle.cose_gate_core.specs.Put.{tagged_put, AsReceived};
+ghost use Rattle.cose_gate_core.specs.Put.{tagged_put, is_as_received};
 ghost use Rattle.cose_gate_core.specs.Questions.{number_of, tag_of, message_tree};
 ghost use Rattle.cose_gate_core.specs.Received.{IsReceivedMessage};
 ghost use Rattle.cose_gate_core.specs.Terms.{limits_of, IsTaken, IsFrontFor};
@@ -116,7 +116,7 @@ fn bar_of<M: Message>(message: &M, shortest: bool) -> Option<Refusal>
 
 /// Writes the canonical encoding of a message with its tag. That takes no memory.
 fn write_message<M: Message, W: Write>(message: &M, out: &mut W) -> Result<(), ItemFault>
-    requires { AsReceived (M.message message.now) }
+    requires { is_as_received (M.message message.now) ≡ true }
     ensures ok { OnOk result (Appends (W.written out.old) (W.written out.new)
         (enc (tagged_put (M.message message.now)))) }
     ensures err { IfErr result (IsWriteFault (W.written out.old) (W.written out.new)
@@ -139,7 +139,7 @@ fn pass_message<M: Message, W: Write, J: Judge>(
     judge: &mut J,
 ) -> Result<Verdict, ItemFault>
     requires received { IsReceivedMessage (M.message message.now) }
-    requires put { AsReceived (M.message message.now) }
+    requires put { is_as_received (M.message message.now) ≡ true }
     ensures ok { (limits : Bounds) (bytes : List ℕ) (t : Tree)
         → Finds limits bytes t (judged (M.message message.now))
         → IfOk result (WentThrough (item_rules limits J.Judge judge.old aad.now) bytes t

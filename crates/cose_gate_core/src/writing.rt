@@ -1,5 +1,6 @@
 //! A message for calls that take what serializes.
-ghost use Rattle.cose_gate_core.specs.Put.{tagged_put, AsReceived, as_received_prop};
+ghost use Rattle.std.specs.Prelude.{◌≡◌, true};
+ghost use Rattle.cose_gate_core.specs.Put.{tagged_put, is_as_received};
 
 use crate::message::Message;
 use ciborium::ser::{Serialize, Sink};
@@ -9,7 +10,7 @@ use ciborium::ser::{Serialize, Sink};
 pub struct Written<'a, M: Message> {
     /// The message.
     pub message: &'a M,
-    ghost received: { AsReceived (M.message message.now) } by { as_received_prop (M.message message.now) },
+    ghost received: { is_as_received (M.message message.now) ≡ true },
 }
 
 impl<M: Message> Serialize for Written<'_, M> {

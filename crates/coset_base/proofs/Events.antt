@@ -74,9 +74,8 @@ signatures_counted (s ∷ ss) = let h : tree_count (signatures_put (signatures_v
 
 -- ---- the label of counter signatures, and the beginning of their list
 pub several_begun : (ss : List CoseSignature) (n : ℕ) → n ≡ length ss → 1 < n → event.integer (pos 7) ∷ (event.array n ∷ []) ≡ signs_begun (signatures_put (signatures_view ss))
-several_begun [] n e l = absurd (omega (arith, e, l))
-several_begun (s ∷ []) n e l = absurd (omega (arith, e, l))
 several_begun (s ∷ (u ∷ us)) n e l = ap (λ z. event.integer (pos 7) ∷ (event.array z ∷ [])) (e ∙ sym (signatures_counted (s ∷ (u ∷ us))))
+several_begun ss n e l = absurd (omega (arith, e, l))
 
 pub one_begun : (ss : List CoseSignature) (n : ℕ) → n ≡ length ss → ss ≢ [] → n ≤ 1 → event.integer (pos 7) ∷ [] ≡ signs_begun (signatures_put (signatures_view ss))
 one_begun [] n e d l = absurd (d refl)

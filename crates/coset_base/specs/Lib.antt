@@ -13,6 +13,7 @@ pub use Rattle.ciborium_value.specs.View as ValueView
 pub use Rattle.coset_headers.specs.Unsent
 pub use Rattle.coset_headers.specs.Fields
 pub use Rattle.coset_headers.specs.Headers
+pub use Rattle.coset_headers.specs.Received
 pub use Rattle.coset_headers.specs.Short
 pub use Rattle.coset_headers.specs.View
 pub use Rattle.coset_headers.specs.Written

@@ -1,7 +1,7 @@
 -- What a header or a signature is written as straight from its fields, and the events of its parts.
 -- A protected header is its received bytes; one without any is the empty byte string, which stands
--- for an empty header alone. Only what is as received is written so.
-use Rattle.std.specs.Prelude.{◌≡◌, ℕ, pos, List, [], ◌∷◌, ◌++◌, length, map as map_list, true, false, Some, None}
+-- for an empty header alone. Only what is as received (`Received`) is written so.
+use Rattle.std.specs.Prelude.{ℕ, pos, List, [], ◌∷◌, ◌++◌, length, map as map_list, Some, None}
 use Rattle.ciborium_value.specs.Tree.{Tree, bytes, array, Trees, no_trees, one_more, tree_count}
 use Rattle.ciborium_value.specs.View.{pairs}
 use Rattle.ciborium_traits.specs.Events as event
@@ -9,7 +9,7 @@ use Rattle.ciborium_traits.specs.Events.{Event, events_pairs}
 use Rattle.coset_labels.specs.Fields.{LabelFields}
 use Rattle.coset_headers.specs.Fields.{Plain, HeaderFields, header, ProtectedFields, protected, SignatureFields, signature, Signatures, no_signatures, signature_more}
 use Rattle.coset_headers.specs.Headers.{list_of_three}
-use Rattle.coset_headers.specs.Written.{name_entry, crit_entry, bytes_entry, written_entries, entry_tree, tree_of, bare_or_list, is_empty, twice}
+use Rattle.coset_headers.specs.Written.{name_entry, crit_entry, bytes_entry, written_entries, entry_tree, tree_of, bare_or_list}
 
 abbrev pub protected_put : ProtectedFields → Tree
 protected_put (protected (Some b) h) = bytes b
@@ -25,23 +25,6 @@ abbrev mutual
   pub signatures_put : Signatures → Trees
   signatures_put no_signatures = no_trees
   signatures_put (signature_more s ss) = one_more (signature_put s) (signatures_put ss)
-
--- the protected header has received bytes, or is empty
-abbrev pub ProtectedReceived : ProtectedFields → Type 0
-ProtectedReceived (protected (Some b) h) = Unit {0}
-ProtectedReceived (protected None h) = is_empty h ≡ true
-
--- and so has each protected header inside; and no label is in a `rest` twice
-abbrev mutual
-  pub HasReceived : HeaderFields → Type 0
-  HasReceived (header p ss) = (twice p.rest ≡ false) × AllReceived ss
-
-  pub SignatureReceived : SignatureFields → Type 0
-  SignatureReceived (signature p h c) = ProtectedReceived p × HasReceived h
-
-  pub AllReceived : Signatures → Type 0
-  AllReceived no_signatures = Unit {0}
-  AllReceived (signature_more s ss) = SignatureReceived s × AllReceived ss
 
 -- the events of entries
 abbrev pub entry_events : List (LabelFields × Tree) → List Event

@@ -27,7 +27,7 @@ pub use crate::structure::{
 };
 pub use crate::title::{BytesTitle, bytes_title};
 pub use cose_iana as iana;
-pub use coset_headers::{CoseSignature, Header, ProtectedHeader};
+pub use coset_headers::{CoseSignature, Header, ProtectedHeader, are_received};
 pub use coset_labels::{
     Algorithm, AsCborValue, AsWritten, CborOrdering, CborSerializable, ContentType, CoseError,
     EndOfFile, Fault, KeyType, Label, Limits, RegisteredLabel, RegisteredLabelWithPrivate, Result,

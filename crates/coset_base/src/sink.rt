@@ -1,6 +1,6 @@
 //! Writes headers and signatures to a sink, straight from their fields. That takes no memory.
-ghost use Rattle.std.specs.Prelude.{◌≡◌, ◌≤◌, if◌then◌else◌, not, pos, map, option_map, OnOk};
-ghost use Rattle.std.specs.Prelude.{OnErr};
+ghost use Rattle.std.specs.Prelude.{◌≡◌, ◌≤◌, if◌then◌else◌, not, true, pos, map, option_map};
+ghost use Rattle.std.specs.Prelude.{OnOk, OnErr};
 ghost use Rattle.cose_iana.specs.Algorithms.{algorithm_number};
 ghost use Rattle.cose_iana.specs.Formats.{coap_content_formats};
 ghost use Rattle.cose_iana.specs.Headers.{header_parameters};
@@ -12,8 +12,9 @@ ghost use Rattle.coset_labels.specs.View.{label_view, registered_view, named_vie
 ghost use Rattle.coset_headers.specs.Fields.{plain_part};
 ghost use Rattle.coset_base.specs.Put.{header_put, protected_put, signature_put, signatures_put};
 ghost use Rattle.coset_base.specs.Put.{entry_count, entry_events, name_events, string_events};
-ghost use Rattle.coset_base.specs.Put.{signs_begun, header_begun, HasReceived, ProtectedReceived};
-ghost use Rattle.coset_base.specs.Put.{SignatureReceived, AllReceived};
+ghost use Rattle.coset_base.specs.Put.{signs_begun, header_begun};
+ghost use Rattle.coset_headers.specs.Received.{is_received_protected, is_received_header};
+ghost use Rattle.coset_headers.specs.Received.{is_received_signature, are_received_signatures};
 ghost use Rattle.coset_headers.specs.View.{header_view, protected_view, signature_view};
 ghost use Rattle.coset_headers.specs.View.{signatures_view, entry_view};
 ghost use Rattle.coset_headers.specs.Written.{name_entry, crit_entry, bytes_entry, is_unsigned};
@@ -263,14 +264,15 @@ fn begin_header<S: Sink>(header: &Header, to: &mut S) -> Result<(), S::Error>
 }
 
 /// Writes a header that is as received: no label is in `rest` twice, and each protected header
-/// inside has its received bytes or is empty. Each that was read is so; `to_vec` writes another.
+/// inside has its received bytes or is empty. Each that was read is so, and `is_received` tells it
+/// of another; `to_vec` writes those that aren't.
 ///
 /// # Errors
 /// The sink's; it took a beginning of the events then, and refused the next.
 #[tactic(auto, using(crate::proofs::Events::header_opened))]
 #[cycle(put)]
 pub fn put_header<S: Sink>(header: &Header, to: &mut S) -> Result<(), S::Error>
-    requires { HasReceived (header_view header.now) }
+    requires { is_received_header (header_view header.now) ≡ true }
     ensures ok { OnOk result (Puts S.due to.old
         (events (header_put (header_view header.now))) to.new) }
     ensures err { OnErr result (Stops S.due S.torn to.old
@@ -288,7 +290,7 @@ pub fn put_header<S: Sink>(header: &Header, to: &mut S) -> Result<(), S::Error>
 /// The sink's.
 #[inline(never)]
 pub fn put_protected<S: Sink>(protected: &ProtectedHeader, to: &mut S) -> Result<(), S::Error>
-    requires { ProtectedReceived (protected_view protected.now) }
+    requires { is_received_protected (protected_view protected.now) ≡ true }
     ensures ok { OnOk result (Puts S.due to.old
         (events (protected_put (protected_view protected.now))) to.new) }
     ensures err { OnErr result (Stops S.due S.torn to.old
@@ -308,7 +310,7 @@ pub fn put_protected<S: Sink>(protected: &ProtectedHeader, to: &mut S) -> Result
 #[tactic(auto, using(crate::proofs::Events::signature_opened))]
 #[cycle(put)]
 pub fn put_signature<S: Sink>(signature: &CoseSignature, to: &mut S) -> Result<(), S::Error>
-    requires { SignatureReceived (signature_view signature.now) }
+    requires { is_received_signature (signature_view signature.now) ≡ true }
     ensures ok { OnOk result (Puts S.due to.old
         (events (signature_put (signature_view signature.now))) to.new) }
     ensures err { OnErr result (Stops S.due S.torn to.old
@@ -323,7 +325,7 @@ pub fn put_signature<S: Sink>(signature: &CoseSignature, to: &mut S) -> Result<(
 /// Writes signatures one after another.
 #[cycle(put)]
 fn put_each<S: Sink>(signatures: &[CoseSignature], to: &mut S) -> Result<(), S::Error>
-    requires { AllReceived (signatures_view signatures.now) }
+    requires { are_received_signatures (signatures_view signatures.now) ≡ true }
     ensures ok { OnOk result (Puts S.due to.old
         (events_all (signatures_put (signatures_view signatures.now))) to.new) }
     ensures err { OnErr result (Stops S.due S.torn to.old
@@ -341,7 +343,7 @@ fn put_each<S: Sink>(signatures: &[CoseSignature], to: &mut S) -> Result<(), S::
 /// The sink's; it took a beginning of the events then, and refused the next.
 #[tactic(auto, using(crate::proofs::Events::list_opened))]
 pub fn put_signatures<S: Sink>(signatures: &[CoseSignature], to: &mut S) -> Result<(), S::Error>
-    requires { AllReceived (signatures_view signatures.now) }
+    requires { are_received_signatures (signatures_view signatures.now) ≡ true }
     ensures ok { OnOk result (Puts S.due to.old
         (events (spec.array (signatures_put (signatures_view signatures.now)))) to.new) }
     ensures err { OnErr result (Stops S.due S.torn to.old

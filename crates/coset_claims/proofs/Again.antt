@@ -3,9 +3,9 @@
 use Rattle.std.proofs.Common.{◌≡◌, ℕ, ℤ, pos, List, [], ◌∷◌, ◌++◌, map, Bool, true, false, ◌||◌, cond, nat_eq, Option, Some, None, option_map, refl, sym, ap, subst, ◌∙◌}
 use Rattle.cose_iana.specs.Claims.{cwt_claim_names}
 use Rattle.cose_iana.specs.Registry.{is_private_use}
-use Rattle.ciborium_value.specs.Tree.{Tree, integer, bytes, text, array, map as map_tree, tag, simple, float}
+use Rattle.ciborium_value.specs.Tree.{Tree, integer, bytes, text, map as map_tree, float}
 use Rattle.ciborium_value.specs.View.{pairs}
-use Rattle.coset_labels.specs.Entries.{is_name, IsIn, Distinct, IsField}
+use Rattle.coset_labels.specs.Entries.{is_name, IsIn, IsField}
 use Rattle.coset_labels.specs.Facts.Back.{named_back}
 use Rattle.coset_labels.specs.Facts.Entries.{is_name_is, at_old, others_own, others_more, field_once, kept}
 use Rattle.coset_labels.specs.Fields.{Named, assigned}
@@ -20,23 +20,11 @@ use Rattle.coset_labels.proofs.Table.{counts, optional_back, entered, not_own, a
 -- ---- what is read of a value is written as that value
 text_back : (t : Tree) (b : List ℕ) → text_of t ≡ Some b → text b ≡ t
 text_back (text c) b e = let h : Some c ≡ Some b = e in let k : c ≡ b = cc in ap text (sym k)
-text_back (integer i) b e = let h : None ≡ Some b = e in cc
-text_back (bytes c) b e = let h : None ≡ Some b = e in cc
-text_back (array ts) b e = let h : None ≡ Some b = e in cc
-text_back (map_tree ps) b e = let h : None ≡ Some b = e in cc
-text_back (tag n t) b e = let h : None ≡ Some b = e in cc
-text_back (simple n) b e = let h : None ≡ Some b = e in cc
-text_back (float f) b e = let h : None ≡ Some b = e in cc
+text_back t b e = let h : None ≡ Some b = e in cc
 
 bytes_back : (t : Tree) (b : List ℕ) → bytes_of t ≡ Some b → bytes b ≡ t
 bytes_back (bytes c) b e = let h : Some c ≡ Some b = e in let k : c ≡ b = cc in ap bytes (sym k)
-bytes_back (integer i) b e = let h : None ≡ Some b = e in cc
-bytes_back (text c) b e = let h : None ≡ Some b = e in cc
-bytes_back (array ts) b e = let h : None ≡ Some b = e in cc
-bytes_back (map_tree ps) b e = let h : None ≡ Some b = e in cc
-bytes_back (tag n t) b e = let h : None ≡ Some b = e in cc
-bytes_back (simple n) b e = let h : None ≡ Some b = e in cc
-bytes_back (float f) b e = let h : None ≡ Some b = e in cc
+bytes_back t b e = let h : None ≡ Some b = e in cc
 
 whole_back : (small : Bool) (i : ℤ) (s : TimeFields) → cond small (Some (whole_seconds i)) None ≡ Some s → time_tree s ≡ integer i
 whole_back true i s e = let h : Some (whole_seconds i) ≡ Some s = e in let k : whole_seconds i ≡ s = cc in ap time_tree (sym k)
@@ -45,12 +33,7 @@ whole_back false i s e = let h : None ≡ Some s = e in cc
 time_back : (t : Tree) (s : TimeFields) → time_of t ≡ Some s → time_tree s ≡ t
 time_back (integer i) s e = whole_back (is_i64 i) i s e
 time_back (float f) s e = let h : Some (fractional_seconds f) ≡ Some s = e in let k : fractional_seconds f ≡ s = cc in ap time_tree (sym k)
-time_back (text b) s e = let h : None ≡ Some s = e in cc
-time_back (bytes b) s e = let h : None ≡ Some s = e in cc
-time_back (array ts) s e = let h : None ≡ Some s = e in cc
-time_back (map_tree ps) s e = let h : None ≡ Some s = e in cc
-time_back (tag n t) s e = let h : None ≡ Some s = e in cc
-time_back (simple n) s e = let h : None ≡ Some s = e in cc
+time_back t s e = let h : None ≡ Some s = e in cc
 
 abbrev key : ℕ → Named
 key n = assigned (pos n)

@@ -19,15 +19,13 @@ header_parts p (Some ts) u e = go (twice p.rest) e
 
 pub signature_parts : (o : Option (List ℕ)) (q : Option Tree) (c : List ℕ) (u : Tree) → option_and_then (λ b. option_map (λ t. array (list_of_three (bytes b) t (bytes c))) q) o ≡ Some u
     → (b : List ℕ) × (v : Tree) × (o ≡ Some b) × (q ≡ Some v) × (array (list_of_three (bytes b) v (bytes c)) ≡ u)
-signature_parts None q c u e = let h : None ≡ Some u = e in absurd (let f : ⊥ = cc in f)
-signature_parts (Some b) None c u e = let h : None ≡ Some u = e in absurd (let f : ⊥ = cc in f)
 signature_parts (Some b) (Some v) c u e = (b, v, refl, refl, (let h : Some (array (list_of_three (bytes b) v (bytes c))) ≡ Some u = e in cc))
+signature_parts o q c u e = let h : None ≡ Some u = e in absurd (let f : ⊥ = cc in f)
 
 pub trees_parts : (o : Option Tree) (q : Option Trees) (us : Trees) → option_and_then (λ t. option_map (λ ts. one_more t ts) q) o ≡ Some us
     → (v : Tree) × (vs : Trees) × (o ≡ Some v) × (q ≡ Some vs) × (one_more v vs ≡ us)
-trees_parts None q us e = let h : None ≡ Some us = e in absurd (let f : ⊥ = cc in f)
-trees_parts (Some v) None us e = let h : None ≡ Some us = e in absurd (let f : ⊥ = cc in f)
 trees_parts (Some v) (Some vs) us e = (v, vs, refl, refl, (let h : Some (one_more v vs) ≡ Some us = e in cc))
+trees_parts o q us e = let h : None ≡ Some us = e in absurd (let f : ⊥ = cc in f)
 
 -- ---- a protected header shows the bytes that it was read of
 pub prot_again : (n : ℕ) (p : ProtectedFields) (t : Tree) (k : ℕ) (b : List ℕ) → HasProtected n t p k → shown p ≡ Some b → t ≡ bytes b

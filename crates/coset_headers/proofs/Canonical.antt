@@ -96,14 +96,13 @@ more_from r q m v ps fs e d k (s, g) =
 entries_step : (l v : Tree) (ps : Pairs) (r : ℕ) (m : Option LabelFields) (o : Option (List (LabelFields × Tree))) (es : List (LabelFields × Tree))
     → ((fs : List (LabelFields × Tree)) (q : ℕ) → o ≡ Some fs → Distinct fs → Decides (are_canonical_entries q ps) (EntriesAreCanonical q fs))
     → label_of l ≡ m → option_and_then (λ m. option_map (λ es. (m, v) ∷ es) o) m ≡ Some es → Distinct es → Decides (are_canonical_entries r (pair_more l v ps)) (EntriesAreCanonical r es)
-entries_step l v ps r None o es k a e d = let h : None ≡ Some es = e in absurd (let f : ⊥ = cc in f)
-entries_step l v ps r (Some m) None es k a e d = let h : None ≡ Some es = e in absurd (let f : ⊥ = cc in f)
 entries_step l v ps r (Some m) (Some fs) es k a e d =
     let h : (m, v) ∷ fs ≡ es = (let g : Some ((m, v) ∷ fs) ≡ Some es = e in cc) in
     let q : place_of l ≡ rank m = ap place_of (sym (label_back l m a)) in
     let c : Distinct ((m, v) ∷ fs) = subst Distinct (sym h) d in
     let w = k fs (rank m) refl c.1 in
     subst (λ z. Decides (are_canonical_entries r (pair_more l v ps)) (EntriesAreCanonical r z)) h (λ x. more_to r (place_of l) m v ps fs q x w.0, λ y. more_from r (place_of l) m v ps fs q c w.1 y)
+entries_step l v ps r m o es k a e d = let h : None ≡ Some es = e in absurd (let f : ⊥ = cc in f)
 
 entries_by : (ps : Pairs) (es : List (LabelFields × Tree)) (r : ℕ) → entries ps ≡ Some es → Distinct es → Decides (are_canonical_entries r ps) (EntriesAreCanonical r es)
 entries_by no_pairs es r e d =

@@ -1,6 +1,6 @@
 -- What was read of a value is written as that value: labels, names, and the fields of a header.
 use Rattle.std.proofs.Common.{◌≡◌, ℕ, List, [], ◌∷◌, map, Option, Some, None, option_map, option_and_then, refl, sym, ap, subst, ◌∙◌}
-use Rattle.ciborium_value.specs.Tree.{Tree, integer, bytes, text, array, map as map_tree, tag, simple, float, Trees, no_trees, one_more, Pairs, no_pairs, pair_more}
+use Rattle.ciborium_value.specs.Tree.{Tree, bytes, array, Trees, no_trees, one_more, Pairs, no_pairs, pair_more}
 use Rattle.ciborium_value.specs.View.{trees, pairs}
 use Rattle.cose_iana.specs.Algorithms.{is_algorithm}
 use Rattle.cose_iana.specs.Formats.{coap_content_formats}
@@ -11,17 +11,16 @@ use Rattle.coset_labels.specs.Fields.{LabelFields, Named}
 use Rattle.coset_labels.specs.Kinds.{some_bytes}
 use Rattle.coset_labels.specs.Labels.{label_of, named_tree, named_of}
 use Rattle.coset_headers.specs.Headers.{alg_of, parameter_of, parameters_of, crit_of, HasContentType, entries, IsField}
-use Rattle.coset_headers.specs.Written.{entry_of, crit_value, bytes_value, entry_tree}
+use Rattle.coset_headers.specs.Written.{crit_value, bytes_value, entry_tree}
 
 -- ---- parameters
 parameter_step : (t : Tree) (ts : Trees) (m : Option Named) (o : Option (List Named)) (ms : List Named) → ((ns : List Named) → o ≡ Some ns → trees (map named_tree ns) ≡ ts) → parameter_of t ≡ m
     → option_and_then (λ n. option_map (λ ns. n ∷ ns) o) m ≡ Some ms → trees (map named_tree ms) ≡ one_more t ts
-parameter_step t ts None o ms k a e = let h : None ≡ Some ms = e in cc
-parameter_step t ts (Some n) None ms k a e = let h : None ≡ Some ms = e in cc
 parameter_step t ts (Some n) (Some ns) ms k a e =
     let h : n ∷ ns ≡ ms = (let g : Some (n ∷ ns) ≡ Some ms = e in cc) in
     subst (λ z. trees (map named_tree z) ≡ one_more t ts) h
     (ap (λ z. one_more z (trees (map named_tree ns))) (named_back header_parameters.is_registered is_private_use t n a) ∙ ap (λ z. one_more t z) (k ns refl))
+parameter_step t ts m o ms k a e = let h : None ≡ Some ms = e in cc
 
 parameters_are : (ts : Trees) (ms : List Named) → parameters_of ts ≡ Some ms → trees (map named_tree ms) ≡ ts
 parameters_are no_trees ms e = let h : [] ≡ ms = (let k : Some [] ≡ Some ms = e in cc) in subst (λ z. trees (map named_tree z) ≡ no_trees) h refl
@@ -30,12 +29,11 @@ parameters_are (one_more t ts) ms e = parameter_step t ts (parameter_of t) (para
 -- ---- the entries of a map
 entry_step : (l v : Tree) (ps : Pairs) (m : Option LabelFields) (o : Option (List (LabelFields × Tree))) (es : List (LabelFields × Tree)) → ((fs : List (LabelFields × Tree)) → o ≡ Some fs → pairs (map entry_tree fs) ≡ ps)
     → label_of l ≡ m → option_and_then (λ m. option_map (λ es. (m, v) ∷ es) o) m ≡ Some es → pairs (map entry_tree es) ≡ pair_more l v ps
-entry_step l v ps None o es k a e = let h : None ≡ Some es = e in cc
-entry_step l v ps (Some m) None es k a e = let h : None ≡ Some es = e in cc
 entry_step l v ps (Some m) (Some fs) es k a e =
     let h : (m, v) ∷ fs ≡ es = (let g : Some ((m, v) ∷ fs) ≡ Some es = e in cc) in
     subst (λ z. pairs (map entry_tree z) ≡ pair_more l v ps) h
     (ap (λ z. pair_more z v (pairs (map entry_tree fs))) (label_back l m a) ∙ ap (λ z. pair_more l v z) (k fs refl))
+entry_step l v ps m o es k a e = let h : None ≡ Some es = e in cc
 
 pub entries_are : (ps : Pairs) (es : List (LabelFields × Tree)) → entries ps ≡ Some es → pairs (map entry_tree es) ≡ ps
 entries_are no_pairs es e = let h : [] ≡ es = (let k : Some [] ≡ Some es = e in cc) in subst (λ z. pairs (map entry_tree z) ≡ no_pairs) h refl
@@ -54,14 +52,7 @@ alg_is (Some t) a h = go (named_of is_algorithm is_private_use t) refl h
 
 pub crit_items : (t : Tree) (ms : List Named) → crit_of t ≡ Some ms → (u : Tree) × (us : Trees) × (t ≡ array (one_more u us)) × (parameters_of (one_more u us) ≡ Some ms)
 crit_items (array (one_more u us)) ms e = (u, us, refl, e)
-crit_items (array no_trees) ms e = let h : None ≡ Some ms = e in absurd (let f : ⊥ = cc in f)
-crit_items (integer i) ms e = let h : None ≡ Some ms = e in absurd (let f : ⊥ = cc in f)
-crit_items (text b) ms e = let h : None ≡ Some ms = e in absurd (let f : ⊥ = cc in f)
-crit_items (bytes b) ms e = let h : None ≡ Some ms = e in absurd (let f : ⊥ = cc in f)
-crit_items (map_tree ps) ms e = let h : None ≡ Some ms = e in absurd (let f : ⊥ = cc in f)
-crit_items (tag n t) ms e = let h : None ≡ Some ms = e in absurd (let f : ⊥ = cc in f)
-crit_items (simple n) ms e = let h : None ≡ Some ms = e in absurd (let f : ⊥ = cc in f)
-crit_items (float f) ms e = let h : None ≡ Some ms = e in absurd (let f : ⊥ = cc in f)
+crit_items t ms e = let h : None ≡ Some ms = e in absurd (let f : ⊥ = cc in f)
 
 crit_full : (c : List Named) (u : Tree) (us : Trees) (t : Tree) → t ≡ array (one_more u us) → trees (map named_tree c) ≡ one_more u us → crit_value c ≡ Some t
 crit_full [] u us t q e = let h : no_trees ≡ one_more u us = e in absurd (let f : ⊥ = cc in f)
@@ -82,17 +73,10 @@ type_once (Some t) x y a b =
     a.3 ∙ e ∙ sym b.3
 
 some_is : (t : Tree) (b : List ℕ) → some_bytes t ≡ Some b → bytes_value b ≡ Some t
-some_is (bytes []) b e = let h : None ≡ Some b = e in cc
 some_is (bytes (x ∷ xs)) b e =
     let h : x ∷ xs ≡ b = (let k : Some (x ∷ xs) ≡ Some b = e in cc) in
     subst (λ z. bytes_value z ≡ Some (bytes (x ∷ xs))) h refl
-some_is (integer i) b e = let h : None ≡ Some b = e in cc
-some_is (text c) b e = let h : None ≡ Some b = e in cc
-some_is (array ts) b e = let h : None ≡ Some b = e in cc
-some_is (map_tree ps) b e = let h : None ≡ Some b = e in cc
-some_is (tag m t) b e = let h : None ≡ Some b = e in cc
-some_is (simple m) b e = let h : None ≡ Some b = e in cc
-some_is (float f) b e = let h : None ≡ Some b = e in cc
+some_is t b e = let h : None ≡ Some b = e in cc
 
 pub bytes_are : (o : Option Tree) (b : List ℕ) → IsField some_bytes [] o b → bytes_value b ≡ o
 bytes_are None b h = ap bytes_value h

@@ -1,5 +1,5 @@
 -- Lists of labels that have to be understood.
-use Rattle.std.proofs.Common.{◌≡◌, ◌≢◌, inr, List, [], ◌∷◌, ◌++◌, map, false, Option, Some, None, option_map, option_and_then, refl, sym, ap, subst, ◌∙◌}
+use Rattle.std.proofs.Common.{◌≡◌, ◌≢◌, inr, List, [], ◌∷◌, ◌++◌, map, false, Some, option_map, option_and_then, refl, sym, ap, subst, ◌∙◌}
 use Rattle.std.proofs.lemmas.List.{map-append}
 use Rattle.cose_iana.specs.Headers.{header_parameters}
 use Rattle.cose_iana.specs.Registry.{is_private_use}
@@ -8,6 +8,7 @@ use Rattle.ciborium_value.specs.View.{trees, view, views}
 use Rattle.ciborium_value.specs.declared.value.Value.{Value}
 use Rattle.coset_labels.specs.Faults.{OrMemory, fault_of, unexpected}
 use Rattle.ciborium_value.specs.Kinds.{is_array}
+use Rattle.coset_labels.specs.Facts.Entries.{snoc_step}
 use Rattle.coset_labels.specs.Fields.{Named}
 use Rattle.coset_labels.specs.Labels.{WrongNamed}
 use Rattle.coset_labels.specs.declared.error.CoseError.{CoseError}
@@ -15,21 +16,12 @@ use Rattle.coset_headers.specs.Headers.{parameter_of, parameters_of, crit_of}
 use Rattle.coset_headers.specs.Wrong.{WrongCrit, no_crit_list, empty_crit, bad_crit}
 use Rattle.coset_headers.proofs.Steps.{passed_on}
 
-names_step : (o : Option Named) (w u : Option (List Named)) (ns : List Named) (n : Named) → ((fs : List Named) → w ≡ Some fs → u ≡ Some (fs ++ n ∷ []))
-    → option_and_then (λ m. option_map (λ es. m ∷ es) w) o ≡ Some ns → option_and_then (λ m. option_map (λ es. m ∷ es) u) o ≡ Some (ns ++ n ∷ [])
-names_step None w u ns n k e = cc
-names_step (Some m) None u ns n k e = let h : None ≡ Some ns = e in cc
-names_step (Some m) (Some fs) u ns n k e =
-    let h : Some (m ∷ fs) ≡ Some ns = e in
-    let s : m ∷ fs ≡ ns = cc in
-    ap (option_map (λ es. m ∷ es)) (k fs refl) ∙ ap (λ z. Some (z ++ n ∷ [])) s
-
 names_snoc : (ts : List Tree) (t : Tree) (ns : List Named) (n : Named) → parameters_of (trees ts) ≡ Some ns → parameter_of t ≡ Some n → parameters_of (trees (ts ++ t ∷ [])) ≡ Some (ns ++ n ∷ [])
 names_snoc [] t ns n e q =
     let h : Some [] ≡ Some ns = e in
     let s : [] ≡ ns = cc in
     ap (λ o. option_and_then (λ n. option_map (λ ns. n ∷ ns) (Some [])) o) q ∙ ap (λ z. Some (z ++ n ∷ [])) s
-names_snoc (x ∷ xs) t ns n e q = names_step (parameter_of x) (parameters_of (trees xs)) _ ns n (λ fs h. names_snoc xs t fs n h q) e
+names_snoc (x ∷ xs) t ns n e q = snoc_step (λ m. m) (parameter_of x) (parameters_of (trees xs)) _ ns n (λ fs h. names_snoc xs t fs n h q) e
 
 pub names_pushed : {T : Type 0} (xs : List Value) (x : Value) (ns ms : List T) (f : T → Named) (n : T) → ms ≡ ns ++ n ∷ [] → parameters_of (views xs) ≡ Some (map f ns) → parameter_of (view x) ≡ Some (f n)
     → parameters_of (views (xs ++ x ∷ [])) ≡ Some (map f ms)

@@ -8,9 +8,8 @@ use Rattle.ciborium_value.proofs.Views.{view_array}
 use Rattle.coset_headers.specs.Written.{bare_or_list}
 
 many : (xs : List Value) → 1 < length xs → Some (array (views xs)) ≡ bare_or_list (views xs)
-many [] h = absurd (omega (arith, h))
-many (x ∷ []) h = absurd (omega (arith, h))
 many (x ∷ y ∷ ys) h = refl
+many xs h = absurd (omega (arith, h))
 
 pub list_of_many : (v : Vec Value Global) → 1 < vec_len v → Some (view (code.Array v)) ≡ bare_or_list (views v.items)
 list_of_many v h = ap Some (view_array v) ∙ many v.items (omega (arith, h, v.ok.0))

@@ -156,18 +156,12 @@ bare_by (one_more t ts) e = let b = bytes_by t e in (b.0, ts, ap (λ z. one_more
 
 number_no_text : (small registered : Bool) (i : ℤ) (b : List ℕ) → cond small (cond registered (Some (assigned i)) None) None ≡ Some (named b) → ⊥
 number_no_text true true i b e = let h : Some (assigned i) ≡ Some (named b) = e in let k : assigned i ≡ named b = cc in cc
-number_no_text true false i b e = let h : None ≡ Some (named b) = e in cc
-number_no_text false r i b e = let h : None ≡ Some (named b) = e in cc
+number_no_text small r i b e = let h : None ≡ Some (named b) = e in cc
 
 pub text_is : (r : ℤ → Bool) (t : Tree) (b : List ℕ) → registered_of r t ≡ Some (named b) → t ≡ text b
 text_is r (integer i) b e = absurd (number_no_text (is_i64 i) (r i) i b e)
 text_is r (text c) b e = let h : Some (named c) ≡ Some (named b) = e in let k : named c ≡ named b = cc in cc
-text_is r (bytes c) b e = let h : None ≡ Some (named b) = e in cc
-text_is r (array ts) b e = let h : None ≡ Some (named b) = e in cc
-text_is r (map_tree ps) b e = let h : None ≡ Some (named b) = e in cc
-text_is r (tag n t) b e = let h : None ≡ Some (named b) = e in cc
-text_is r (simple n) b e = let h : None ≡ Some (named b) = e in cc
-text_is r (float f) b e = let h : None ≡ Some (named b) = e in cc
+text_is r t b e = let h : None ≡ Some (named b) = e in cc
 
 -- ---- the fields of one entry
 pub fill_wrong : (l m : LabelFields) (v : Tree) (p : Plain) (e : CoseFault) → l ≡ m → WrongField v m e → WrongFill l v p e

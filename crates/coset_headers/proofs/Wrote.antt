@@ -1,7 +1,7 @@
 -- The entries that a header is written as: where each value is, and that no label is repeated.
 use Rattle.std.proofs.Common.{◌≡◌, ℕ, ℤ, suc, pos, ◌+◌, ◌<◌, ◌≤◌, ◌⊎◌, inl, inr, List, [], ◌∷◌, ◌++◌, length, map, Bool, true, false, cond, nat_eq, Option, Some, None, option_map, option_and_then, refl, sym, ap, subst, ◌∙◌, arith}
 use borrow.Author.Tests.{eqb-true}
-use Rattle.ciborium_value.specs.Tree.{Tree, integer, bytes, text, array, map as map_tree, tag, simple, float, Pairs, no_pairs, pair_more}
+use Rattle.ciborium_value.specs.Tree.{Tree, integer, text, Pairs, no_pairs, pair_more}
 use Rattle.ciborium_value.specs.View.{pairs}
 use Rattle.coset_labels.specs.Fields.{LabelFields, number, words}
 use Rattle.coset_labels.specs.Labels.{is_i64, label_of, label_tree}
@@ -21,12 +21,7 @@ label_if i false l q e = let h : None ≡ Some l = e in cc
 label_again : (t : Tree) (l : LabelFields) → label_of t ≡ Some l → label_of (label_tree l) ≡ Some l
 label_again (integer i) l e = label_if i (is_i64 i) l refl e
 label_again (text b) l e = let h : words b ≡ l = (let k : Some (words b) ≡ Some l = e in cc) in subst (λ z. label_of (label_tree z) ≡ Some z) h refl
-label_again (bytes b) l e = let h : None ≡ Some l = e in cc
-label_again (array ts) l e = let h : None ≡ Some l = e in cc
-label_again (map_tree ps) l e = let h : None ≡ Some l = e in cc
-label_again (tag n t) l e = let h : None ≡ Some l = e in cc
-label_again (simple n) l e = let h : None ≡ Some l = e in cc
-label_again (float f) l e = let h : None ≡ Some l = e in cc
+label_again t l e = let h : None ≡ Some l = e in cc
 
 -- each label is one that can be read
 abbrev pub AllLabels : List (LabelFields × Tree) → Type 0
@@ -35,11 +30,10 @@ AllLabels (e ∷ es) = (label_of (label_tree e.0) ≡ Some e.0) × AllLabels es
 
 one_label : (l v : Tree) (m : Option LabelFields) (o : Option (List (LabelFields × Tree))) (es : List (LabelFields × Tree)) → ((fs : List (LabelFields × Tree)) → o ≡ Some fs → AllLabels fs) → label_of l ≡ m
     → option_and_then (λ m. option_map (λ es. (m, v) ∷ es) o) m ≡ Some es → AllLabels es
-one_label l v None o es k a e = let h : None ≡ Some es = e in absurd (let f : ⊥ = cc in f)
-one_label l v (Some m) None es k a e = let h : None ≡ Some es = e in absurd (let f : ⊥ = cc in f)
 one_label l v (Some m) (Some fs) es k a e =
     let h : (m, v) ∷ fs ≡ es = (let g : Some ((m, v) ∷ fs) ≡ Some es = e in cc) in
     subst AllLabels h (label_again l m a, k fs refl)
+one_label l v m o es k a e = let h : None ≡ Some es = e in absurd (let f : ⊥ = cc in f)
 
 pub read_labels : (ps : Pairs) (es : List (LabelFields × Tree)) → entries ps ≡ Some es → AllLabels es
 read_labels no_pairs es e = let h : [] ≡ es = (let k : Some [] ≡ Some es = e in cc) in subst AllLabels h tt

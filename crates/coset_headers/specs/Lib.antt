@@ -8,6 +8,7 @@ pub mod Fields
 pub mod Headers
 pub mod Levels
 pub mod Parts
+pub mod Received
 pub mod Same
 pub mod Short
 pub mod View

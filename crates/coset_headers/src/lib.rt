@@ -10,6 +10,7 @@ mod fits;
 mod header;
 pub mod laws;
 mod reader;
+mod received;
 mod serial;
 mod values;
 mod writer;
@@ -19,4 +20,5 @@ pub use crate::as_written::{
 };
 pub use crate::entries::{push_bytes, push_rest, repeats};
 pub use crate::header::{CoseSignature, Header, ProtectedHeader};
+pub use crate::received::are_received;
 pub use crate::writer::show_protected;

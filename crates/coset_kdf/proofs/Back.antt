@@ -1,10 +1,10 @@
 -- What was read is written as the value that it was read of.
-use Rattle.std.proofs.Common.{◌≡◌, ℕ, ℤ, pos, negsuc, List, ◌∷◌, map, Bool, true, false, cond, Option, Some, None, option_map, refl, sym, ap, ◌∙◌}
+use Rattle.std.proofs.Common.{◌≡◌, ℕ, ℤ, pos, List, ◌∷◌, map, Bool, true, false, cond, Option, Some, None, option_map, refl, sym, ap, ◌∙◌}
 use Rattle.std.specs.Prelude.{nat_eq, nat_lt}
 use borrow.Author.Tests.{eqb-true}
 use Rattle.cose_iana.specs.Algorithms.{is_algorithm}
 use Rattle.cose_iana.specs.Registry.{is_private_use}
-use Rattle.ciborium_value.specs.Tree.{Tree, integer, bytes, text, array, map as map_tree, tag, simple, float, one_more}
+use Rattle.ciborium_value.specs.Tree.{Tree, integer, bytes, array, simple, one_more}
 use Rattle.ciborium_value.specs.View.{trees}
 use Rattle.coset_labels.specs.Facts.Back.{named_back}
 use Rattle.coset_labels.specs.Labels.{is_i64, named_tree}
@@ -22,12 +22,7 @@ nil_back n o false q e = let h : None ≡ Some o = e in cc
 maybe_back : (t : Tree) (o : Option (List ℕ)) → bytes_or_nil t ≡ Some o → bytes_or_nil_tree o ≡ t
 maybe_back (bytes b) o e = let h : Some (Some b) ≡ Some o = e in let k : Some b ≡ o = cc in ap bytes_or_nil_tree (sym k)
 maybe_back (simple n) o e = nil_back n o (nat_eq n 22) refl e
-maybe_back (integer i) o e = let h : None ≡ Some o = e in cc
-maybe_back (text b) o e = let h : None ≡ Some o = e in cc
-maybe_back (array ts) o e = let h : None ≡ Some o = e in cc
-maybe_back (map_tree ps) o e = let h : None ≡ Some o = e in cc
-maybe_back (tag n t) o e = let h : None ≡ Some o = e in cc
-maybe_back (float f) o e = let h : None ≡ Some o = e in cc
+maybe_back t o e = let h : None ≡ Some o = e in cc
 
 no_nonce_back : (n : ℕ) (o : Option NonceFields) (b : Bool) → nat_eq n 22 ≡ b → cond b (Some None) None ≡ Some o → nonce_tree o ≡ simple n
 no_nonce_back n o true q e = let h : Some None ≡ Some o = e in let k : None ≡ o = cc in ap nonce_tree (sym k) ∙ ap simple (sym (eqb-true n 22 q))
@@ -41,11 +36,7 @@ nonce_back : (t : Tree) (o : Option NonceFields) → nonce_of t ≡ Some o → n
 nonce_back (bytes b) o e = let h : Some (Some (nonce_bytes b)) ≡ Some o = e in let k : Some (nonce_bytes b) ≡ o = cc in ap nonce_tree (sym k)
 nonce_back (integer i) o e = integer_back i o (is_i64 i) e
 nonce_back (simple n) o e = no_nonce_back n o (nat_eq n 22) refl e
-nonce_back (text b) o e = let h : None ≡ Some o = e in cc
-nonce_back (array ts) o e = let h : None ≡ Some o = e in cc
-nonce_back (map_tree ps) o e = let h : None ≡ Some o = e in cc
-nonce_back (tag n t) o e = let h : None ≡ Some o = e in cc
-nonce_back (float f) o e = let h : None ≡ Some o = e in cc
+nonce_back t o e = let h : None ≡ Some o = e in cc
 
 pub party_back : (t : Tree) (p : PartyFields) → HasParty t p → party_tree p ≡ t
 party_back t p (a, b, c, q, f, g, h) =
@@ -58,14 +49,7 @@ small_back n m false e = let h : None ≡ Some m = e in cc
 
 length_back : (t : Tree) (m : ℕ) → length_of t ≡ Some m → integer (pos m) ≡ t
 length_back (integer (pos n)) m e = small_back n m (nat_lt n 18446744073709551616) e
-length_back (integer (negsuc n)) m e = let h : None ≡ Some m = e in cc
-length_back (bytes b) m e = let h : None ≡ Some m = e in cc
-length_back (text b) m e = let h : None ≡ Some m = e in cc
-length_back (array ts) m e = let h : None ≡ Some m = e in cc
-length_back (map_tree ps) m e = let h : None ≡ Some m = e in cc
-length_back (tag n t) m e = let h : None ≡ Some m = e in cc
-length_back (simple n) m e = let h : None ≡ Some m = e in cc
-length_back (float f) m e = let h : None ≡ Some m = e in cc
+length_back t m e = let h : None ≡ Some m = e in cc
 
 pub prot_back : (n : ℕ) (p : ProtectedFields) (t : Tree) (k : ℕ) → HasProtected n t p k → (b : List ℕ) × (t ≡ bytes b) × (shown p ≡ Some b)
 prot_back n (protected o h) t k a = (a.0, a.1, ap (λ z. shown (protected z h)) a.2)

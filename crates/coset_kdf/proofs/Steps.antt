@@ -70,11 +70,8 @@ context_few n t k vs us ps q w f =
     subst (λ z. WrongContext n z k unexpected) (sym q) (too_few (views vs) k (subst (λ m. m < 4) (length-map vs view ∙ sym (views_count vs)) l))
 
 private_at : (n k : ℕ) (before after : List Tree) (t : Tree) → 4 ≤ length before → is_bytes t ≡ false → WrongContext n (array (trees (before ++ t ∷ after))) k unexpected
-private_at n k [] after t l w = absurd (omega (arith, l))
-private_at n k (a ∷ []) after t l w = absurd (omega (arith, l))
-private_at n k (a ∷ u ∷ []) after t l w = absurd (omega (arith, l))
-private_at n k (a ∷ u ∷ v ∷ []) after t l w = absurd (omega (arith, l))
 private_at n k (a ∷ u ∷ v ∷ s ∷ before) after t l w = in_private a u v s t before after k w
+private_at n k before after t l w = absurd (omega (arith, l))
 
 pub context_private : (n : ℕ) (t : Tree) (k : ℕ) (vs : List Value) (e : CoseError) → t ≡ array (views vs) → OrMemory (WrongPopped (map view vs)) e → OrMemory (WrongContext n t k) e
 context_private n t k vs e q w = passed_on (WrongPopped (map view vs)) (WrongContext n t k) e

@@ -1,5 +1,5 @@
 -- Lists of operations as they are read.
-use Rattle.std.proofs.Common.{◌≡◌, ⊎_elim, List, [], ◌∷◌, ◌++◌, map, Bool, true, false, Option, Some, None, option_map, option_and_then, refl, sym, ap, subst, ◌∙◌}
+use Rattle.std.proofs.Common.{◌≡◌, ⊎_elim, List, [], ◌∷◌, ◌++◌, map, Bool, true, false, Some, option_map, option_and_then, refl, sym, ap, subst, ◌∙◌}
 use Rattle.std.specs.Prelude.{not, ◌||◌}
 use Rattle.std.specs.Cmp.{IsEquivalence}
 use Rattle.std.specs.List.{Contains, IsDistinct, list_any}
@@ -14,6 +14,7 @@ use Rattle.std.proofs.lemmas.Map.Views.{Contains-from_any, list_any-from_Contain
 use Rattle.ciborium_value.specs.Tree.{Tree}
 use Rattle.ciborium_value.specs.View.{trees, view, views}
 use Rattle.ciborium_value.specs.declared.value.Value.{Value}
+use Rattle.coset_labels.specs.Facts.Entries.{snoc_step}
 use Rattle.coset_labels.specs.Fields.{Named}
 use Rattle.coset_labels.specs.Orders.{named_cmp}
 use Rattle.coset_labels.specs.Facts.Orders.{named_total, named_tied, names_same}
@@ -21,21 +22,12 @@ use Rattle.coset_keys.specs.Keys.{operation_of, operations_of, Rises}
 use Rattle.coset_keys.proofs.Rising.{inserted_there, inserted_keeps, inserted_only}
 
 -- ---- one more operation
-snoc_step : (o : Option Named) (w u : Option (List Named)) (ns : List Named) (n : Named) → ((fs : List Named) → w ≡ Some fs → u ≡ Some (fs ++ n ∷ []))
-    → option_and_then (λ m. option_map (λ es. m ∷ es) w) o ≡ Some ns → option_and_then (λ m. option_map (λ es. m ∷ es) u) o ≡ Some (ns ++ n ∷ [])
-snoc_step None w u ns n k e = cc
-snoc_step (Some m) None u ns n k e = let h : None ≡ Some ns = e in cc
-snoc_step (Some m) (Some fs) u ns n k e =
-    let h : Some (m ∷ fs) ≡ Some ns = e in
-    let s : m ∷ fs ≡ ns = cc in
-    ap (option_map (λ es. m ∷ es)) (k fs refl) ∙ ap (λ z. Some (z ++ n ∷ [])) s
-
 operations_snoc : (ts : List Tree) (t : Tree) (ns : List Named) (n : Named) → operations_of (trees ts) ≡ Some ns → operation_of t ≡ Some n → operations_of (trees (ts ++ t ∷ [])) ≡ Some (ns ++ n ∷ [])
 operations_snoc [] t ns n e q =
     let h : Some [] ≡ Some ns = e in
     let s : [] ≡ ns = cc in
     ap (λ o. option_and_then (λ n. option_map (λ ns. n ∷ ns) (Some [])) o) q ∙ ap (λ z. Some (z ++ n ∷ [])) s
-operations_snoc (x ∷ xs) t ns n e q = snoc_step (operation_of x) (operations_of (trees xs)) _ ns n (λ fs h. operations_snoc xs t fs n h q) e
+operations_snoc (x ∷ xs) t ns n e q = snoc_step (λ m. m) (operation_of x) (operations_of (trees xs)) _ ns n (λ fs h. operations_snoc xs t fs n h q) e
 
 pub operations_pushed : (xs : List Value) (x : Value) (ms : List Named) (n : Named) → operations_of (views xs) ≡ Some ms → operation_of (view x) ≡ Some n → operations_of (views (xs ++ x ∷ [])) ≡ Some (ms ++ n ∷ [])
 operations_pushed xs x ms n a q = ap (λ z. operations_of (trees z)) (map-append view xs (x ∷ [])) ∙ operations_snoc (map view xs) (view x) ms n a q

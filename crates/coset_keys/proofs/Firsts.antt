@@ -10,6 +10,5 @@ pub record FirstOf {A B : Type 0} (f : A → B) (o : Option A) (w : Option (List
   pub whole : all ≡ f first ∷ rest
 
 pub first_of : {A B : Type 0} (f : A → B) (o : Option A) (w : Option (List B)) (all : List B) → option_and_then (λ a. option_map (λ bs. f a ∷ bs) w) o ≡ Some all → FirstOf f o w all
-first_of f None w all e = let h : None ≡ Some all = e in cc
-first_of f (Some a) None all e = let h : None ≡ Some all = e in cc
 first_of f (Some a) (Some bs) all e = let h : Some (f a ∷ bs) ≡ Some all = e in record { first = a; rest = bs; is = refl; others = refl; whole = cc }
+first_of f o w all e = let h : None ≡ Some all = e in cc

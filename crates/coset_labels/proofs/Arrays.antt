@@ -4,25 +4,17 @@ use Rattle.std.proofs.lemmas.List.{map-append}
 use Rattle.ciborium_value.specs.Tree.{Tree, array}
 use Rattle.ciborium_value.specs.View.{trees, view}
 use Rattle.ciborium_value.specs.declared.value.Value.{Value}
+use Rattle.coset_labels.specs.Facts.Entries.{snoc_step}
 use Rattle.coset_labels.specs.Arrays.{all_written, array_of}
 use Rattle.coset_labels.specs.Faults.{CantWrite}
 use Rattle.coset_labels.specs.declared.error.CoseError.{CoseError}
-
-step : (o : Option Tree) (w u : Option (List Tree)) (ts : List Tree) (t : Tree) → ((us : List Tree) → w ≡ Some us → u ≡ Some (us ++ t ∷ []))
-    → option_and_then (λ m. option_map (λ es. m ∷ es) w) o ≡ Some ts → option_and_then (λ m. option_map (λ es. m ∷ es) u) o ≡ Some (ts ++ t ∷ [])
-step None w u ts t k e = cc
-step (Some m) None u ts t k e = let h : None ≡ Some ts = e in cc
-step (Some m) (Some fs) u ts t k e =
-    let h : Some (m ∷ fs) ≡ Some ts = e in
-    let s : m ∷ fs ≡ ts = cc in
-    ap (option_map (λ es. m ∷ es)) (k fs refl) ∙ ap (λ z. Some (z ++ t ∷ [])) s
 
 pub written_snoc : {F : Type 0} (written : F → Option Tree) (fs : List F) (f : F) (ts : List Tree) (t : Tree) → all_written written fs ≡ Some ts → written f ≡ Some t → all_written written (fs ++ f ∷ []) ≡ Some (ts ++ t ∷ [])
 written_snoc written [] f ts t e q =
     let h : Some [] ≡ Some ts = e in
     let s : [] ≡ ts = cc in
     ap (λ o. option_and_then (λ m. option_map (λ es. m ∷ es) (Some [])) o) q ∙ ap (λ z. Some (z ++ t ∷ [])) s
-written_snoc written (g ∷ gs) f ts t e q = step (written g) (all_written written gs) _ ts t (λ us h. written_snoc written gs f us t h q) e
+written_snoc written (g ∷ gs) f ts t e q = snoc_step (λ z. z) (written g) (all_written written gs) _ ts t (λ us h. written_snoc written gs f us t h q) e
 
 none_step : (o : Option Tree) → option_and_then (λ m. option_map (λ es. m ∷ es) None) o ≡ None
 none_step None = refl

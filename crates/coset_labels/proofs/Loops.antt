@@ -38,9 +38,8 @@ moved all xs x (ys, e) = (ys, e ∙ sym (append_assoc xs (x ∷ []) ys))
 -- the result of one more item
 gives_more : {A B E : Type 0} (R : A → Result B E → Type 0) (xs : List A) (ys : List B) (x : A) (y : B) → GivesAll R xs ys → R x (Ok y) → GivesAll R (xs ++ x ∷ []) (ys ++ y ∷ [])
 gives_more R [] [] x y g h = (h, tt)
-gives_more R [] (w ∷ ws) x y g h = absurd g
-gives_more R (z ∷ zs) [] x y g h = absurd g
 gives_more R (z ∷ zs) (w ∷ ws) x y g h = (g.0, gives_more R zs ws x y g.1 h)
+gives_more R xs ys x y g h = absurd g
 
 pub gives_pushed : {A B E : Type 0} (R : A → Result B E → Type 0) (xs : List A) (ys zs : List B) (x : A) (y : B) → zs ≡ ys ++ y ∷ [] → GivesAll R xs ys → R x (Ok y) → GivesAll R (xs ++ x ∷ []) zs
 gives_pushed R xs ys zs x y e g h = subst (GivesAll R (xs ++ x ∷ [])) (sym e) (gives_more R xs ys x y g h)

@@ -163,9 +163,8 @@ module _ {K : Type 0} (is : ℕ → K → Bool) (key : ℕ → K) (numbered : (n
 
       names_step : (l v : Tree) (o : Option K) (w : Option (List (K × Tree))) (es : List (K × Tree)) → read l ≡ o → ((fs : List (K × Tree)) → w ≡ Some fs → Names fs)
           → option_and_then (λ m. option_map (λ es. (m, v) ∷ es) w) o ≡ Some es → Names es
-      names_step l v None w es q f e = let h : None ≡ Some es = e in cc
-      names_step l v (Some m) None es q f e = let h : None ≡ Some es = e in cc
       names_step l v (Some m) (Some fs) es q f e = let h : Some ((m, v) ∷ fs) ≡ Some es = e in let k : (m, v) ∷ fs ≡ es = cc in subst Names k (ap read (back l m q) ∙ q, f fs refl)
+      names_step l v o w es q f e = let h : None ≡ Some es = e in cc
 
       all_names : (ps : Pairs) (es : List (K × Tree)) → entries read ps ≡ Some es → Names es
       all_names no_pairs es e = let h : Some [] ≡ Some es = e in let k : [] ≡ es = cc in subst Names k tt

@@ -1,5 +1,5 @@
 //! Laws of the definitions.
-ghost use Rattle.std.specs.Prelude.{◌≡◌, ◌≢◌, ◌↔◌, ℕ, List, IsTrue, None, Some};
+ghost use Rattle.std.specs.Prelude.{◌≡◌, ◌≢◌, ◌↔◌, ℕ, List, IsTrue, true, None, Some};
 ghost use Rattle.ciborium.specs.Front.{Reads};
 ghost use Rattle.ciborium_value.specs.Encoding.{enc, Fits};
 ghost use Rattle.ciborium_value.specs.Tree.{Tree, tag};
@@ -13,7 +13,7 @@ ghost use Rattle.coset_maced.specs.Structure.{mac0_covered_with, mac_covered_wit
 ghost use Rattle.coset_maced.specs.View.{mac0_view, mac_view};
 ghost use Rattle.coset_maced.specs.Written.{mac0_tree, mac_tree};
 ghost use Rattle.coset_maced.specs.Wrong.{WrongMac0, WrongMac};
-ghost use Rattle.coset_maced.specs.Put.{mac0_put, mac_put, Mac0Received, MacReceived};
+ghost use Rattle.coset_maced.specs.Put.{mac0_put, mac_put, is_received_mac0, is_received_mac};
 
 use crate::mac::CoseMac;
 use crate::mac0::CoseMac0;
@@ -141,14 +141,14 @@ pub fn mac_compare(a: &CoseMac, b: &CoseMac)
 /// What is written straight from fields that are as received is what `to_cbor_value` writes of
 /// them.
 pub fn put_is_written()
-    ensures mac0 { (m : Mac0Fields) → Mac0Received m → mac0_tree m ≡ Some (mac0_put m) }
-    ensures mac { (m : MacFields) → MacReceived m → mac_tree m ≡ Some (mac_put m) }
+    ensures mac0 { (m : Mac0Fields) → is_received_mac0 m ≡ true → mac0_tree m ≡ Some (mac0_put m) }
+    ensures mac { (m : MacFields) → is_received_mac m ≡ true → mac_tree m ≡ Some (mac_put m) }
 {}
 
 /// What was read is as received: the calls that write it straight from its fields may be made.
 pub fn read_is_received()
-    ensures mac0 { (n k : ℕ) (t : Tree) (m : Mac0Fields) → HasMac0 n t m k → Mac0Received m }
-    ensures mac { (n k : ℕ) (t : Tree) (m : MacFields) → HasMac n t m k → MacReceived m }
+    ensures mac0 { (n k : ℕ) (t : Tree) (m : Mac0Fields) → HasMac0 n t m k → is_received_mac0 m ≡ true }
+    ensures mac { (n k : ℕ) (t : Tree) (m : MacFields) → HasMac n t m k → is_received_mac m ≡ true }
 {}
 
 /// What was read is written straight from its fields as the same value as by `to_cbor_value`.

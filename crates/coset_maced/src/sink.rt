@@ -1,9 +1,9 @@
 //! Writes messages with a tag straight from their fields, without their tags and with them (RFC
 //! 9052, sections 6.1 and 6.2). What is written is as received.
-ghost use Rattle.std.specs.Prelude.{OnOk, OnErr};
+ghost use Rattle.std.specs.Prelude.{◌≡◌, true, OnOk, OnErr};
 ghost use Rattle.ciborium_traits.specs.Events.{events, Puts, Stops};
 ghost use Rattle.coset_maced.specs.View.{mac0_view, mac_view};
-ghost use Rattle.coset_maced.specs.Put.{mac0_put, mac_put, Mac0Received, MacReceived};
+ghost use Rattle.coset_maced.specs.Put.{mac0_put, mac_put, is_received_mac0, is_received_mac};
 ghost use Rattle.ciborium_value.specs.Tree as spec;
 
 use crate::mac::CoseMac;
@@ -18,7 +18,7 @@ use coset_recipients::{begin_parts, put_recipients};
 /// # Errors
 /// The sink's; it took a beginning of the events then, and refused the next.
 pub fn put_mac0<S: Sink>(message: &CoseMac0, to: &mut S) -> Result<(), S::Error>
-    requires { Mac0Received (mac0_view message.now) }
+    requires { is_received_mac0 (mac0_view message.now) ≡ true }
     ensures ok { OnOk result (Puts S.due to.old
         (events (mac0_put (mac0_view message.now))) to.new) }
     ensures err { OnErr result (Stops S.due S.torn to.old
@@ -40,7 +40,7 @@ pub fn put_mac0<S: Sink>(message: &CoseMac0, to: &mut S) -> Result<(), S::Error>
 /// # Errors
 /// The sink's; it took a beginning of the events then, and refused the next.
 pub fn put_mac<S: Sink>(message: &CoseMac, to: &mut S) -> Result<(), S::Error>
-    requires { MacReceived (mac_view message.now) }
+    requires { is_received_mac (mac_view message.now) ≡ true }
     ensures ok { OnOk result (Puts S.due to.old
         (events (mac_put (mac_view message.now))) to.new) }
     ensures err { OnErr result (Stops S.due S.torn to.old
@@ -62,7 +62,7 @@ pub fn put_mac<S: Sink>(message: &CoseMac, to: &mut S) -> Result<(), S::Error>
 /// # Errors
 /// The sink's; it took a beginning of the events then, and refused the next.
 pub fn put_tagged_mac0<S: Sink>(message: &CoseMac0, to: &mut S) -> Result<(), S::Error>
-    requires { Mac0Received (mac0_view message.now) }
+    requires { is_received_mac0 (mac0_view message.now) ≡ true }
     ensures ok { OnOk result (Puts S.due to.old
         (events (spec.tag 17 (mac0_put (mac0_view message.now)))) to.new) }
     ensures err { OnErr result (Stops S.due S.torn to.old
@@ -77,7 +77,7 @@ pub fn put_tagged_mac0<S: Sink>(message: &CoseMac0, to: &mut S) -> Result<(), S:
 /// # Errors
 /// The sink's; it took a beginning of the events then, and refused the next.
 pub fn put_tagged_mac<S: Sink>(message: &CoseMac, to: &mut S) -> Result<(), S::Error>
-    requires { MacReceived (mac_view message.now) }
+    requires { is_received_mac (mac_view message.now) ≡ true }
     ensures ok { OnOk result (Puts S.due to.old
         (events (spec.tag 97 (mac_put (mac_view message.now)))) to.new) }
     ensures err { OnErr result (Stops S.due S.torn to.old

@@ -16,11 +16,8 @@ no_fourth (a ∷ b ∷ c ∷ []) h = refl
 no_fourth (a ∷ b ∷ c ∷ d ∷ es) h = absurd (omega (arith, h))
 
 pub some_fourth : (xs : List Value) (x : Value) (b : Bool) → 4 ≤ length xs → x ≡ get_or xs 3 x → b ≡ is_canonical_list (view x) → b ≡ is_canonical_fourth (views xs)
-some_fourth [] x b h e q = absurd (omega (arith, h))
-some_fourth (y ∷ []) x b h e q = absurd (omega (arith, h))
-some_fourth (y ∷ z ∷ []) x b h e q = absurd (omega (arith, h))
-some_fourth (y ∷ z ∷ w ∷ []) x b h e q = absurd (omega (arith, h))
 some_fourth (y ∷ z ∷ w ∷ v ∷ vs) x b h e q = q ∙ ap (λ u. is_canonical_list (view u)) e
+some_fourth xs x b h e q = absurd (omega (arith, h))
 
 filled_is : (xs : List Value) → is_filled (views xs) ≡ not (length xs == 0)
 filled_is [] = refl

@@ -62,30 +62,27 @@ none_wrote written us e = let q : Some [] ≡ Some us = e in cc
 
 lasts_some : (Ps : List (Tree → Type 0)) (os : List (Option Tree)) (xs : List Tree) → AllKept Ps os → HoldOf Ps xs → all_written (λ o. o) os ≢ None
 lasts_some [] [] xs a h = some_is []
-lasts_some [] (o ∷ os) xs a h = absurd a
-lasts_some (P ∷ Ps) [] xs a h = absurd a
 lasts_some (P ∷ Ps) (o ∷ os) [] a h = absurd h
 lasts_some (P ∷ Ps) (o ∷ os) (x ∷ xs) a h = and_some _ o (a.0.some x h.0) (λ t. map_some _ (all_written (λ o. o) os) (lasts_some Ps os xs a.1 h.1))
+lasts_some Ps os xs a h = absurd a
 
 lasts_again : (Ps : List (Tree → Type 0)) (os : List (Option Tree)) (xs ys : List Tree) → AllKept Ps os → HoldOf Ps xs → all_written (λ o. o) os ≡ Some ys → HoldOf Ps ys
 lasts_again [] [] xs ys a h e = subst (HoldOf []) (none_wrote (λ (o : Option Tree). o) ys e) tt
-lasts_again [] (o ∷ os) xs ys a h e = absurd a
-lasts_again (P ∷ Ps) [] xs ys a h e = absurd a
 lasts_again (P ∷ Ps) (o ∷ os) [] ys a h e = absurd h
 lasts_again (P ∷ Ps) (o ∷ os) (x ∷ xs) ys a h e =
     let w = more_wrote (λ (o : Option Tree). o) o os ys e in
     subst (HoldOf (P ∷ Ps)) w.are (a.0.again x w.first h.0 w.first_is, lasts_again Ps os xs w.rest a.1 h.1 w.rest_are)
+lasts_again Ps os xs ys a h e = absurd a
 
 lasts_sound : (d : ℕ) (Ps : List (Tree → Type 0)) (os : List (Option Tree)) (xs ys : List Tree) → AllKept Ps os → HoldOf Ps xs → all_written (λ o. o) os ≡ Some ys → SoundAll d (trees xs) → SoundAll d (trees ys)
 lasts_sound d [] [] xs ys a h e s = subst (λ z. SoundAll d (trees z)) (none_wrote (λ (o : Option Tree). o) ys e) (all_none d)
-lasts_sound d [] (o ∷ os) xs ys a h e s = absurd a
-lasts_sound d (P ∷ Ps) [] xs ys a h e s = absurd a
 lasts_sound d (P ∷ Ps) (o ∷ os) [] ys a h e s = absurd h
 lasts_sound d (P ∷ Ps) (o ∷ os) (x ∷ xs) ys a h e s =
     let w = more_wrote (λ (o : Option Tree). o) o os ys e in
     let both = all_parts d x (trees xs) s in
     subst (λ z. SoundAll d (trees z)) w.are
     (all_more d w.first (trees w.rest) (a.0.sound d x w.first h.0 w.first_is both.0) (lasts_sound d Ps os xs w.rest a.1 h.1 w.rest_are both.1))
+lasts_sound d Ps os xs ys a h e s = absurd a
 
 -- ---- messages
 pub record Wrote (p : ProtectedFields) (u : HeaderFields) (c : Option (List ℕ)) (os : List (Option Tree)) (v : Tree) : Type 0 where

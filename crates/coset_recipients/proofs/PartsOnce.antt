@@ -72,11 +72,10 @@ AllNot (W ∷ Ws) (P ∷ Ps) e = ((x : Tree) → W x e → P x → ⊥) × AllNo
 
 as_many : (Ws : List (Tree → CoseFault → Type 0)) (Ps : List (Tree → Type 0)) (e : CoseFault) (ts : List Tree) → AllNot Ws Ps e → HoldOf Ps ts → tree_count (trees ts) ≡ how_many Ws
 as_many [] [] e [] f h = refl
-as_many [] [] e (t ∷ ts) f h = absurd h
 as_many [] (P ∷ Ps) e ts f h = absurd f
 as_many (W ∷ Ws) [] e ts f h = absurd f
-as_many (W ∷ Ws) (P ∷ Ps) e [] f h = absurd h
 as_many (W ∷ Ws) (P ∷ Ps) e (t ∷ ts) f h = let m = as_many Ws Ps e ts f.1 h.1 in omega (arith, m)
+as_many Ws Ps e ts f h = absurd h
 
 any_not : (Ws : List (Tree → CoseFault → Type 0)) (Ps : List (Tree → Type 0)) (e : CoseFault) (ts : List Tree) → AllNot Ws Ps e → AnyWrong Ws ts e → HoldOf Ps ts → ⊥
 any_not [] Ps e ts f w h = w

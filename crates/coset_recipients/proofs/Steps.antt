@@ -34,23 +34,16 @@ no_length n ts k e q a b = subst (WrongRecipient n (array ts) k) (sym q) (not_th
 
 split_wrong : (n : ℕ) (xs : List Tree) (o : Option Tree) (k : ℕ) (e : CoseFault) → Split xs o → WrongThree n xs k e → WrongRecipient n (array (trees (xs ++ optional_list o))) k e
 split_wrong n [] None k e h w = no_length n _ k e w (λ q. omega (arith, q)) (λ q. omega (arith, q))
-split_wrong n [] (Some t) k e h w = absurd (omega (arith, h))
 split_wrong n (x ∷ []) None k e h w = no_length n _ k e w (λ q. omega (arith, q)) (λ q. omega (arith, q))
-split_wrong n (x ∷ []) (Some t) k e h w = absurd (omega (arith, h))
 split_wrong n (x ∷ y ∷ []) None k e h w = no_length n _ k e w (λ q. omega (arith, q)) (λ q. omega (arith, q))
-split_wrong n (x ∷ y ∷ []) (Some t) k e h w = absurd (omega (arith, h))
 split_wrong n (x ∷ y ∷ z ∷ []) o k e h w = in_parts x y z o k e w
 split_wrong n (x ∷ y ∷ z ∷ u ∷ []) None k e h w = absurd (h refl)
-split_wrong n (x ∷ y ∷ z ∷ u ∷ []) (Some t) k e h w = absurd (omega (arith, h))
 split_wrong n (x ∷ y ∷ z ∷ u ∷ v ∷ vs) None k e h w = no_length n _ k e w (λ q. omega (arith, q)) (λ q. omega (arith, q))
-split_wrong n (x ∷ y ∷ z ∷ u ∷ v ∷ vs) (Some t) k e h w = absurd (omega (arith, h))
+split_wrong n xs (Some t) k e h w = absurd (omega (arith, h))
 
 split_has : (n : ℕ) (xs : List Tree) (o : Option Tree) (inner : RecipientsFields) (r : RecipientFields) (k : ℕ) → HasThree n xs inner r k → HasInner n o inner k → HasRecipient n (array (trees (xs ++ optional_list o))) r k
-split_has n [] o inner r k h i = absurd h
-split_has n (x ∷ []) o inner r k h i = absurd h
-split_has n (x ∷ y ∷ []) o inner r k h i = absurd h
 split_has n (x ∷ y ∷ z ∷ []) o inner (recipient p u c rs) k h i = (x, y, z, o, refl, h.0, subst (λ s. HasInner n o s k) (sym h.1) i)
-split_has n (x ∷ y ∷ z ∷ u ∷ us) o inner r k h i = absurd h
+split_has n xs o inner r k h i = absurd h
 
 -- the items of an array, what is left of them after the fourth was taken, and the fourth
 abbrev LeftOf : List Value → List Value → Option Value → Type 0
@@ -80,11 +73,8 @@ pub inner_none : (n : ℕ) (rs : List CoseRecipient) (k : ℕ) → rs ≡ [] →
 inner_none n rs k e = inl (refl, ap recipients_view e)
 
 three_first : (n : ℕ) (xs : List Tree) (t : Tree) (k : ℕ) (e : CoseFault) → length xs ≡ 3 → WrongList n t k e → WrongRecipient n (array (trees (xs ++ t ∷ []))) k e
-three_first n [] t k e h w = absurd (omega (arith, h))
-three_first n (x ∷ []) t k e h w = absurd (omega (arith, h))
-three_first n (x ∷ y ∷ []) t k e h w = absurd (omega (arith, h))
 three_first n (x ∷ y ∷ z ∷ []) t k e h w = in_fourth x y z t k e w
-three_first n (x ∷ y ∷ z ∷ u ∷ us) t k e h w = absurd (omega (arith, h))
+three_first n xs t k e h w = absurd (omega (arith, h))
 
 pub recipient_inner : (n : ℕ) (t : Tree) (old new : List Value) (v : Value) (k : ℕ) (e : CoseError) → t ≡ array (views old) → (old ≡ new ++ v ∷ []) × (length new ≡ 3) → OrMemory (WrongList n (view v) k) e → OrMemory (WrongRecipient n t k) e
 recipient_inner n t old new v k e q h w =

@@ -1,11 +1,12 @@
 -- What parts and recipients are written as straight from their fields (RFC 9052, sections 4.2, 5.1
 -- and 6.2), and the events of their parts. Only what is as received is written so.
-use Rattle.std.specs.Prelude.{ℕ, List, [], ◌∷◌, ◌++◌}
-use Rattle.ciborium_value.specs.Tree.{Tree, bytes, array, Trees, no_trees, one_more, tree_count}
+use Rattle.std.specs.Prelude.{ℕ, List, [], ◌∷◌, ◌++◌, Bool, true, ◌&&◌}
+use Rattle.ciborium_value.specs.Tree.{Tree, array, Trees, no_trees, one_more, tree_count}
 use Rattle.ciborium_value.specs.View.{trees}
 use Rattle.ciborium_traits.specs.Events as event
 use Rattle.ciborium_traits.specs.Events.{Event, events_all}
-use Rattle.coset_base.specs.Put.{protected_put, header_put, ProtectedReceived, HasReceived}
+use Rattle.coset_headers.specs.Received.{is_received_protected, is_received_header}
+use Rattle.coset_base.specs.Put.{protected_put, header_put}
 use Rattle.coset_recipients.specs.PartsFields.{PartsFields, parts}
 use Rattle.coset_recipients.specs.PartsWritten.{optional_tree}
 use Rattle.coset_recipients.specs.Fields.{RecipientFields, recipient, RecipientsFields, no_recipients, recipient_more}
@@ -28,17 +29,17 @@ abbrev mutual
   recipients_put no_recipients = no_trees
   recipients_put (recipient_more r rs) = one_more (recipient_put r) (recipients_put rs)
 
--- each protected header inside has received bytes or is empty, and no label is in a `rest` twice
-abbrev pub PartsReceived : PartsFields → Type 0
-PartsReceived f = ProtectedReceived f.protected × HasReceived f.unprotected
+-- the headers are as received, and so are those of the recipients inside
+abbrev pub are_received_parts : PartsFields → Bool
+are_received_parts f = is_received_protected f.protected && is_received_header f.unprotected
 
 abbrev mutual
-  pub RecipientReceived : RecipientFields → Type 0
-  RecipientReceived (recipient p u c rs) = PartsReceived (parts p u c) × RecipientsReceived rs
+  pub is_received_recipient : RecipientFields → Bool
+  is_received_recipient (recipient p u c rs) = are_received_parts (parts p u c) && are_received_recipients rs
 
-  pub RecipientsReceived : RecipientsFields → Type 0
-  RecipientsReceived no_recipients = Unit {0}
-  RecipientsReceived (recipient_more r rs) = RecipientReceived r × RecipientsReceived rs
+  pub are_received_recipients : RecipientsFields → Bool
+  are_received_recipients no_recipients = true
+  are_received_recipients (recipient_more r rs) = is_received_recipient r && are_received_recipients rs
 
 -- the events of the beginning of an array of so many items, and of the parts that come first
 abbrev pub begun : ℕ → PartsFields → List Event

@@ -1,5 +1,5 @@
 //! Laws of the definitions.
-ghost use Rattle.std.specs.Prelude.{◌≡◌, ◌≢◌, ◌↔◌, ◌^◌, ◌<◌, ℕ, List, IsTrue, None, Some};
+ghost use Rattle.std.specs.Prelude.{◌≡◌, ◌≢◌, ◌↔◌, ◌^◌, ◌<◌, ℕ, List, IsTrue, true, None, Some};
 ghost use Rattle.ciborium.specs.Front.{Reads};
 ghost use Rattle.ciborium_value.specs.Encoding.{enc, Fits, FitAll};
 ghost use Rattle.ciborium_value.specs.Tree.{Tree, Trees, tree_count, array};
@@ -14,8 +14,8 @@ ghost use Rattle.coset_recipients.specs.Structure.{recipient_structure};
 ghost use Rattle.coset_recipients.specs.View.{recipient_view, recipients_view, opened};
 ghost use Rattle.coset_recipients.specs.Written.{recipient_tree, recipients_trees, list_tree};
 ghost use Rattle.coset_recipients.specs.Wrong.{WrongRecipient, WrongList};
-ghost use Rattle.coset_recipients.specs.Put.{recipient_put, recipients_put, RecipientReceived};
-ghost use Rattle.coset_recipients.specs.Put.{RecipientsReceived};
+ghost use Rattle.coset_recipients.specs.Put.{recipient_put, recipients_put, is_received_recipient};
+ghost use Rattle.coset_recipients.specs.Put.{are_received_recipients};
 
 pub mod parts;
 
@@ -138,18 +138,18 @@ pub fn recipient_compare(a: &CoseRecipient, b: &CoseRecipient)
 /// What is written straight from fields that are as received is what `to_cbor_value` writes of
 /// them.
 pub fn put_is_written()
-    ensures recipient { (r : RecipientFields) → RecipientReceived r
+    ensures recipient { (r : RecipientFields) → is_received_recipient r ≡ true
         → recipient_tree r ≡ Some (recipient_put r) }
-    ensures recipients { (rs : RecipientsFields) → RecipientsReceived rs
+    ensures recipients { (rs : RecipientsFields) → are_received_recipients rs ≡ true
         → list_tree rs ≡ Some (array (recipients_put rs)) }
 {}
 
 /// What was read is as received: the calls that write it straight from its fields may be made.
 pub fn read_is_received()
     ensures recipient { (n k : ℕ) (t : Tree) (r : RecipientFields) → HasRecipient n t r k
-        → RecipientReceived r }
+        → is_received_recipient r ≡ true }
     ensures recipients { (n k : ℕ) (t : Tree) (rs : RecipientsFields) → HasList n t rs k
-        → RecipientsReceived rs }
+        → are_received_recipients rs ≡ true }
 {}
 
 /// What was read is written straight from its fields as the same value as by `to_cbor_value`.

@@ -1,9 +1,9 @@
 //! Writes the parts that each message and each recipient begins with.
-ghost use Rattle.std.specs.Prelude.{option_map, OnOk, OnErr};
+ghost use Rattle.std.specs.Prelude.{◌≡◌, true, option_map, OnOk, OnErr};
 ghost use Rattle.ciborium_traits.specs.Events.{events, Puts, Stops};
 ghost use Rattle.coset_recipients.specs.PartsView.{parts_in};
 ghost use Rattle.coset_recipients.specs.PartsWritten.{optional_tree};
-ghost use Rattle.coset_recipients.specs.Put.{begun, PartsReceived};
+ghost use Rattle.coset_recipients.specs.Put.{begun, are_received_parts};
 
 use ciborium_traits::ser::Sink;
 use coset_base::{put_header, put_protected};
@@ -34,7 +34,7 @@ pub fn begin_parts<S: Sink>(
     content: &Option<Vec<u8>>,
     to: &mut S,
 ) -> Result<(), S::Error>
-    requires { PartsReceived (parts_in protected.now unprotected.now content.now) }
+    requires { are_received_parts (parts_in protected.now unprotected.now content.now) ≡ true }
     ensures ok { OnOk result (Puts S.due to.old
         (begun count (parts_in protected.now unprotected.now content.now)) to.new) }
     ensures err { OnErr result (Stops S.due S.torn to.old

@@ -1,11 +1,11 @@
 //! Writes recipients straight from their fields.
-ghost use Rattle.std.specs.Prelude.{◌≡◌, ◌≤◌, OnOk, OnErr};
+ghost use Rattle.std.specs.Prelude.{◌≡◌, ◌≤◌, true, OnOk, OnErr};
 ghost use Rattle.ciborium_value.specs.Tree as spec;
 ghost use Rattle.ciborium_traits.specs.Events.{events, events_all, Puts, Stops};
 ghost use Rattle.coset_recipients.specs.View.{recipient_view, recipients_view};
 ghost use Rattle.coset_recipients.specs.Put.{recipient_put, recipients_put, recipient_begun};
-ghost use Rattle.coset_recipients.specs.Put.{inner_begun, item_count, RecipientReceived};
-ghost use Rattle.coset_recipients.specs.Put.{RecipientsReceived};
+ghost use Rattle.coset_recipients.specs.Put.{inner_begun, item_count, is_received_recipient};
+ghost use Rattle.coset_recipients.specs.Put.{are_received_recipients};
 
 use crate::parts_sink::begin_parts;
 use crate::recipient::CoseRecipient;
@@ -36,7 +36,7 @@ fn begin_inner<S: Sink>(recipients: &[CoseRecipient], to: &mut S) -> Result<(), 
 #[tactic(auto, using(crate::proofs::Events::begun_opened))]
 #[inline(never)]
 fn begin_recipient<S: Sink>(recipient: &CoseRecipient, to: &mut S) -> Result<(), S::Error>
-    requires { RecipientReceived (recipient_view recipient.now) }
+    requires { is_received_recipient (recipient_view recipient.now) ≡ true }
     ensures ok { OnOk result (Puts S.due to.old
         (recipient_begun (recipient_view recipient.now)) to.new) }
     ensures err { OnErr result (Stops S.due S.torn to.old
@@ -61,7 +61,7 @@ fn begin_recipient<S: Sink>(recipient: &CoseRecipient, to: &mut S) -> Result<(),
 #[tactic(auto, using(crate::proofs::Events::recipient_opened))]
 #[cycle(put)]
 pub fn put_recipient<S: Sink>(recipient: &CoseRecipient, to: &mut S) -> Result<(), S::Error>
-    requires { RecipientReceived (recipient_view recipient.now) }
+    requires { is_received_recipient (recipient_view recipient.now) ≡ true }
     ensures ok { OnOk result (Puts S.due to.old
         (events (recipient_put (recipient_view recipient.now))) to.new) }
     ensures err { OnErr result (Stops S.due S.torn to.old
@@ -74,7 +74,7 @@ pub fn put_recipient<S: Sink>(recipient: &CoseRecipient, to: &mut S) -> Result<(
 /// Writes recipients one after another.
 #[cycle(put)]
 fn put_each<S: Sink>(recipients: &[CoseRecipient], to: &mut S) -> Result<(), S::Error>
-    requires { RecipientsReceived (recipients_view recipients.now) }
+    requires { are_received_recipients (recipients_view recipients.now) ≡ true }
     ensures ok { OnOk result (Puts S.due to.old
         (events_all (recipients_put (recipients_view recipients.now))) to.new) }
     ensures err { OnErr result (Stops S.due S.torn to.old
@@ -92,7 +92,7 @@ fn put_each<S: Sink>(recipients: &[CoseRecipient], to: &mut S) -> Result<(), S::
 /// The sink's; it took a beginning of the events then, and refused the next.
 #[tactic(auto, using(crate::proofs::Events::list_opened))]
 pub fn put_recipients<S: Sink>(recipients: &[CoseRecipient], to: &mut S) -> Result<(), S::Error>
-    requires { RecipientsReceived (recipients_view recipients.now) }
+    requires { are_received_recipients (recipients_view recipients.now) ≡ true }
     ensures ok { OnOk result (Puts S.due to.old
         (events (spec.array (recipients_put (recipients_view recipients.now)))) to.new) }
     ensures err { OnErr result (Stops S.due S.torn to.old

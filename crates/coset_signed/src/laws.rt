@@ -1,5 +1,5 @@
 //! Laws of the definitions.
-ghost use Rattle.std.specs.Prelude.{◌≡◌, ◌≢◌, ◌↔◌, ℕ, List, IsTrue, Some, None, map};
+ghost use Rattle.std.specs.Prelude.{◌≡◌, ◌≢◌, ◌↔◌, ℕ, List, IsTrue, true, Some, None, map};
 ghost use Rattle.ciborium.specs.Front.{Reads};
 ghost use Rattle.ciborium_value.specs.Encoding.{enc, Fits};
 ghost use Rattle.ciborium_value.specs.Tree.{Tree, array, tag};
@@ -20,7 +20,7 @@ ghost use Rattle.coset_signed.specs.Structure.{sign1_covered_with, sign_covered_
 ghost use Rattle.coset_signed.specs.View.{sign1_view, sign_view};
 ghost use Rattle.coset_signed.specs.Written.{sign1_tree, sign_tree};
 ghost use Rattle.coset_signed.specs.Wrong.{WrongSign1, WrongSign};
-ghost use Rattle.coset_signed.specs.Put.{sign1_put, sign_put, Sign1Received, SignReceived};
+ghost use Rattle.coset_signed.specs.Put.{sign1_put, sign_put, is_received_sign1, is_received_sign};
 
 use crate::sign::CoseSign;
 use crate::sign1::CoseSign1;
@@ -161,15 +161,15 @@ pub fn sign_compare(a: &CoseSign, b: &CoseSign)
 /// What is written straight from fields that are as received is what `to_cbor_value` writes of
 /// them.
 pub fn put_is_written()
-    ensures sign1 { (m : Sign1Fields) → Sign1Received m → sign1_tree m ≡ Some (sign1_put m) }
-    ensures sign { (m : SignFields) → SignReceived m → sign_tree m ≡ Some (sign_put m) }
+    ensures sign1 { (m : Sign1Fields) → is_received_sign1 m ≡ true → sign1_tree m ≡ Some (sign1_put m) }
+    ensures sign { (m : SignFields) → is_received_sign m ≡ true → sign_tree m ≡ Some (sign_put m) }
 {}
 
 /// What was read is as received: the calls that write it straight from its fields may be made.
 pub fn read_is_received()
     ensures sign1 { (n k : ℕ) (t : Tree) (m : Sign1Fields) → HasSign1 n t m k
-        → Sign1Received m }
-    ensures sign { (n k : ℕ) (t : Tree) (m : SignFields) → HasSign n t m k → SignReceived m }
+        → is_received_sign1 m ≡ true }
+    ensures sign { (n k : ℕ) (t : Tree) (m : SignFields) → HasSign n t m k → is_received_sign m ≡ true }
 {}
 
 /// What was read is written straight from its fields as the same value as by `to_cbor_value`.

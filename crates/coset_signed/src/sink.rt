@@ -1,9 +1,9 @@
 //! Writes signed messages straight from their fields, without their tags and with them (RFC 9052,
 //! sections 4.1 and 4.2). What is written is as received.
-ghost use Rattle.std.specs.Prelude.{OnOk, OnErr};
+ghost use Rattle.std.specs.Prelude.{◌≡◌, true, OnOk, OnErr};
 ghost use Rattle.ciborium_traits.specs.Events.{events, Puts, Stops};
 ghost use Rattle.coset_signed.specs.View.{sign1_view, sign_view};
-ghost use Rattle.coset_signed.specs.Put.{sign1_put, sign_put, Sign1Received, SignReceived};
+ghost use Rattle.coset_signed.specs.Put.{sign1_put, sign_put, is_received_sign1, is_received_sign};
 ghost use Rattle.ciborium_value.specs.Tree as spec;
 
 use crate::sign::CoseSign;
@@ -19,7 +19,7 @@ use coset_recipients::begin_parts;
 /// # Errors
 /// The sink's; it took a beginning of the events then, and refused the next.
 pub fn put_sign1<S: Sink>(message: &CoseSign1, to: &mut S) -> Result<(), S::Error>
-    requires { Sign1Received (sign1_view message.now) }
+    requires { is_received_sign1 (sign1_view message.now) ≡ true }
     ensures ok { OnOk result (Puts S.due to.old
         (events (sign1_put (sign1_view message.now))) to.new) }
     ensures err { OnErr result (Stops S.due S.torn to.old
@@ -41,7 +41,7 @@ pub fn put_sign1<S: Sink>(message: &CoseSign1, to: &mut S) -> Result<(), S::Erro
 /// # Errors
 /// The sink's; it took a beginning of the events then, and refused the next.
 pub fn put_sign<S: Sink>(message: &CoseSign, to: &mut S) -> Result<(), S::Error>
-    requires { SignReceived (sign_view message.now) }
+    requires { is_received_sign (sign_view message.now) ≡ true }
     ensures ok { OnOk result (Puts S.due to.old
         (events (sign_put (sign_view message.now))) to.new) }
     ensures err { OnErr result (Stops S.due S.torn to.old
@@ -62,7 +62,7 @@ pub fn put_sign<S: Sink>(message: &CoseSign, to: &mut S) -> Result<(), S::Error>
 /// # Errors
 /// The sink's; it took a beginning of the events then, and refused the next.
 pub fn put_tagged_sign1<S: Sink>(message: &CoseSign1, to: &mut S) -> Result<(), S::Error>
-    requires { Sign1Received (sign1_view message.now) }
+    requires { is_received_sign1 (sign1_view message.now) ≡ true }
     ensures ok { OnOk result (Puts S.due to.old
         (events (spec.tag 18 (sign1_put (sign1_view message.now)))) to.new) }
     ensures err { OnErr result (Stops S.due S.torn to.old
@@ -77,7 +77,7 @@ pub fn put_tagged_sign1<S: Sink>(message: &CoseSign1, to: &mut S) -> Result<(), 
 /// # Errors
 /// The sink's; it took a beginning of the events then, and refused the next.
 pub fn put_tagged_sign<S: Sink>(message: &CoseSign, to: &mut S) -> Result<(), S::Error>
-    requires { SignReceived (sign_view message.now) }
+    requires { is_received_sign (sign_view message.now) ≡ true }
     ensures ok { OnOk result (Puts S.due to.old
         (events (spec.tag 98 (sign_put (sign_view message.now)))) to.new) }
     ensures err { OnErr result (Stops S.due S.torn to.old

@@ -68,25 +68,24 @@ none_of_seven f c =
       no_7 = c6;
     }
 
+-- ---- one more item, if all are there
+pub snoc_step : {A B : Type 0} (f : A → B) (o : Option A) (w u : Option (List B)) (bs : List B) (x : B) → ((cs : List B) → w ≡ Some cs → u ≡ Some (cs ++ x ∷ []))
+    → option_and_then (λ a. option_map (λ cs. f a ∷ cs) w) o ≡ Some bs → option_and_then (λ a. option_map (λ cs. f a ∷ cs) u) o ≡ Some (bs ++ x ∷ [])
+snoc_step f (Some a) (Some cs) u bs x k e =
+    let h : Some (f a ∷ cs) ≡ Some bs = e in
+    let same : f a ∷ cs ≡ bs = cc in
+    ap (option_map (λ cs. f a ∷ cs)) (k cs refl) ∙ ap (λ z. Some (z ++ x ∷ [])) same
+snoc_step f o w u bs x k e = let h : None ≡ Some bs = e in absurd (let g : ⊥ = cc in g)
+
 -- ---- one more entry
 module _ {K : Type 0} (read : Tree → Option K) where
-  snoc_step : (o : Option K) (w u : Option (List (K × Tree))) (t : Tree) (es : List (K × Tree)) (x : K × Tree)
-      → ((fs : List (K × Tree)) → w ≡ Some fs → u ≡ Some (fs ++ x ∷ []))
-      → option_and_then (λ m. option_map (λ es. (m, t) ∷ es) w) o ≡ Some es → option_and_then (λ m. option_map (λ es. (m, t) ∷ es) u) o ≡ Some (es ++ x ∷ [])
-  snoc_step None w u t es x k e = cc
-  snoc_step (Some m) None u t es x k e = let n : None ≡ Some es = e in cc
-  snoc_step (Some m) (Some fs) u t es x k e =
-      let n : Some ((m, t) ∷ fs) ≡ Some es = e in
-      let same : (m, t) ∷ fs ≡ es = cc in
-      ap (option_map (λ es. (m, t) ∷ es)) (k fs refl) ∙ ap (λ z. Some (z ++ x ∷ [])) same
-
   pub entries_snoc : (bs : List (Tree × Tree)) (es : List (K × Tree)) (l v : Tree) (m : K) → entries read (pairs bs) ≡ Some es → read l ≡ Some m
       → entries read (pairs (bs ++ (l, v) ∷ [])) ≡ Some (es ++ (m, v) ∷ [])
   entries_snoc [] es l v m e q =
       let n : Some [] ≡ Some es = e in
       let same : [] ≡ es = cc in
       ap (λ o. option_and_then (λ m. option_map (λ es. (m, v) ∷ es) (Some [])) o) q ∙ ap (λ z. Some (z ++ (m, v) ∷ [])) same
-  entries_snoc (b ∷ bs) es l v m e q = snoc_step (read b.0) (entries read (pairs bs)) (entries read (pairs (bs ++ (l, v) ∷ []))) b.1 es (m, v) (λ fs h. entries_snoc bs fs l v m h q) e
+  entries_snoc (b ∷ bs) es l v m e q = snoc_step (λ n. (n, b.1)) (read b.0) (entries read (pairs bs)) (entries read (pairs (bs ++ (l, v) ∷ []))) es (m, v) (λ fs h. entries_snoc bs fs l v m h q) e
 
 module _ {K : Type 0} (is : K → Bool) where
   pub at_old : (es : List (K × Tree)) (m : K) (v : Tree) → is m ≡ false → at is (es ++ (m, v) ∷ []) ≡ at is es

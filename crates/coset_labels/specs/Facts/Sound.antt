@@ -70,11 +70,10 @@ all_more d t ts a b =
     record { shallow = omega (arith, h, k); folded = ap (option_and_then (λ u. option_map (one_more u) (folds_all ts))) a.folded ∙ ap (option_map (one_more t)) b.folded; assigned = (a.assigned, b.assigned) }
 
 pub all_split : (m : Option Tree) (ms : Option Trees) (t : Tree) (ts : Trees) → option_and_then (λ u. option_map (one_more u) ms) m ≡ Some (one_more t ts) → (m ≡ Some t) × (ms ≡ Some ts)
-all_split None ms t ts e = let f : None ≡ Some (one_more t ts) = e in absurd (let g : ⊥ = cc in g)
-all_split (Some v) None t ts e = let f : None ≡ Some (one_more t ts) = e in absurd (let g : ⊥ = cc in g)
 all_split (Some v) (Some vs) t ts e =
     let f : one_more v vs ≡ one_more t ts = (let g : Some (one_more v vs) ≡ Some (one_more t ts) = e in cc) in
     let a : v ≡ t = cc in let b : vs ≡ ts = cc in (ap Some a, ap Some b)
+all_split m ms t ts e = let f : None ≡ Some (one_more t ts) = e in absurd (let g : ⊥ = cc in g)
 
 pub all_parts : (d : ℕ) (t : Tree) (ts : Trees) → SoundAll d (one_more t ts) → Sound d t × SoundAll d ts
 all_parts d t ts s =
@@ -84,12 +83,10 @@ all_parts d t ts s =
 
 pub pairs_split : (m n : Option Tree) (ms : Option Pairs) (k v : Tree) (ps : Pairs) → option_and_then (λ a. option_and_then (λ b. option_map (pair_more a b) ms) n) m ≡ Some (pair_more k v ps)
     → (m ≡ Some k) × (n ≡ Some v) × (ms ≡ Some ps)
-pairs_split None n ms k v ps e = let f : None ≡ Some (pair_more k v ps) = e in absurd (let g : ⊥ = cc in g)
-pairs_split (Some a) None ms k v ps e = let f : None ≡ Some (pair_more k v ps) = e in absurd (let g : ⊥ = cc in g)
-pairs_split (Some a) (Some b) None k v ps e = let f : None ≡ Some (pair_more k v ps) = e in absurd (let g : ⊥ = cc in g)
 pairs_split (Some a) (Some b) (Some qs) k v ps e =
     let f : pair_more a b qs ≡ pair_more k v ps = (let g : Some (pair_more a b qs) ≡ Some (pair_more k v ps) = e in cc) in
     let x : a ≡ k = cc in let y : b ≡ v = cc in let z : qs ≡ ps = cc in (ap Some x, ap Some y, ap Some z)
+pairs_split m n ms k v ps e = let f : None ≡ Some (pair_more k v ps) = e in absurd (let g : ⊥ = cc in g)
 
 pub pairs_parts_sound : (d : ℕ) (k v : Tree) (ps : Pairs) → SoundPairs d (pair_more k v ps) → Sound d v × SoundPairs d ps
 pairs_parts_sound d k v ps s =
@@ -140,11 +137,10 @@ AllSound d (e ∷ es) = Sound d e.1 × AllSound d es
 module _ {K : Type 0} (read : Tree → Option K) where
   one_sound : (d : ℕ) (v : Tree) (m : Option K) (o : Option (List (K × Tree))) (es : List (K × Tree)) → Sound d v → ((fs : List (K × Tree)) → o ≡ Some fs → AllSound d fs)
       → option_and_then (λ m. option_map (λ es. (m, v) ∷ es) o) m ≡ Some es → AllSound d es
-  one_sound d v None o es s k e = let h : None ≡ Some es = e in absurd (let f : ⊥ = cc in f)
-  one_sound d v (Some m) None es s k e = let h : None ≡ Some es = e in absurd (let f : ⊥ = cc in f)
   one_sound d v (Some m) (Some fs) es s k e =
       let h : (m, v) ∷ fs ≡ es = (let g : Some ((m, v) ∷ fs) ≡ Some es = e in cc) in
       subst (λ z. AllSound d z) h (s, k fs refl)
+  one_sound d v m o es s k e = let h : None ≡ Some es = e in absurd (let f : ⊥ = cc in f)
 
   pub entries_sound : (d : ℕ) (ps : Pairs) (es : List (K × Tree)) → entries read ps ≡ Some es → SoundPairs d ps → AllSound d es
   entries_sound d no_pairs es e s = let h : [] ≡ es = (let k : Some [] ≡ Some es = e in cc) in subst (λ z. AllSound d z) h tt

@@ -24,9 +24,8 @@ record First {K : Type 0} (o : Option K) (w : Option (List (K × Tree))) (v : Tr
   whole : all ≡ (key, v) ∷ rest
 
 first : {K : Type 0} (o : Option K) (w : Option (List (K × Tree))) (v : Tree) (all : List (K × Tree)) → option_and_then (λ m. option_map (λ es. (m, v) ∷ es) w) o ≡ Some all → First o w v all
-first None w v all e = let h : None ≡ Some all = e in cc
-first (Some m) None v all e = let h : None ≡ Some all = e in cc
 first (Some m) (Some es) v all e = let h : Some ((m, v) ∷ es) ≡ Some all = e in record { key = m; rest = es; is = refl; others = refl; whole = cc }
+first o w v all e = let h : None ≡ Some all = e in cc
 
 pub splits : {K : Type 0} (read : Tree → Option K) (before after : List (Tree × Tree)) (l v : Tree) (es all : List (K × Tree)) → entries read (pairs before) ≡ Some es → entries read (pairs (before ++ (l, v) ∷ after)) ≡ Some all → Splits read l v es all
 splits read [] after l v es all e f =

@@ -1,7 +1,8 @@
-use Rattle.std.proofs.Common.{◌++◌, map, sym, ap, subst, arith, rules}
+use Rattle.std.proofs.Common.{◌≡◌, ◌++◌, true, map, sym, ap, subst, arith, rules}
 use denote.Param.Weighed.{at_most}
 use Rattle.ciborium_traits.specs.Events.{events_all}
-use Rattle.coset_base.specs.Put.{SignatureReceived, entry_events, header_begun, signatures_put}
+use Rattle.coset_base.specs.Put.{entry_events, header_begun, signatures_put}
+use Rattle.coset_headers.specs.Received.{is_received_signature}
 use Rattle.coset_headers.specs.View.{header_view, signature_view, signatures_view, entry_view}
 use Rattle.coset_headers.specs.declared.header.CoseSignature.TheViews.{size-CoseSignature}
 use Rattle.coset_headers.specs.declared.header.Header.{out-Header}
@@ -53,5 +54,5 @@ put_each-put_signature-requires g t c κs within =
     let size = ap size-CoseSignature is in
     let below = at_most size-CoseSignature ss i c.signature-item.result c.signatures-test.true in (
       omega (arith, c.decreases, size, below),
-      (search rules, (search rules, subst (λ z. SignatureReceived (signature_view z)) (sym is) (received_at ss i _ c.signatures-test.true c.requires))),
+      (search rules, (search rules, subst (λ z. is_received_signature (signature_view z) ≡ true) (sym is) (received_at ss i _ c.signatures-test.true c.requires))),
     )

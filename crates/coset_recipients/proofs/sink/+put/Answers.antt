@@ -1,10 +1,10 @@
-use Rattle.std.proofs.Common.{sym, ap, subst, arith, rules}
+use Rattle.std.proofs.Common.{◌≡◌, sym, ap, subst, arith, rules, true}
 use denote.Param.Weighed.{at_most}
 use Rattle.ciborium_traits.specs.Events.{events_all}
 use Rattle.coset_recipients.specs.View.{recipient_view, recipients_view}
 use Rattle.coset_recipients.specs.declared.recipient.CoseRecipient.{out-CoseRecipient}
 use Rattle.coset_recipients.specs.declared.recipient.CoseRecipient.TheViews.{size-CoseRecipient}
-use Rattle.coset_recipients.specs.Put.{RecipientReceived, recipients_put, recipient_begun}
+use Rattle.coset_recipients.specs.Put.{is_received_recipient, recipients_put, recipient_begun}
 use Rattle.coset_recipients.proofs.Events.{recipient_opened}
 use Rattle.coset_recipients.proofs.Received.{received_at}
 use Rattle.coset_base.proofs.Left.{begins, goes_on, ends, ends_torn, is_torn}
@@ -38,5 +38,5 @@ put_each-put_recipient-requires g t c κs within =
     let size = ap size-CoseRecipient is in
     let below = at_most size-CoseRecipient rs i c.recipient-item.result c.recipients-test.true in (
       omega (arith, c.decreases, size, below),
-      (search rules, (search rules, subst (λ z. RecipientReceived (recipient_view z)) (sym is) (received_at rs i _ c.recipients-test.true c.requires))),
+      (search rules, (search rules, subst (λ z. is_received_recipient (recipient_view z) ≡ true) (sym is) (received_at rs i _ c.recipients-test.true c.requires))),
     )
