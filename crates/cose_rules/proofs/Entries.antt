@@ -17,7 +17,7 @@ use Rattle.coset_keys.specs.Fields.{KeyFields}
 use Rattle.coset_keys.specs.View.{key_view}
 use Rattle.coset_keys.specs.declared.key.CoseKey.{CoseKey}
 use Rattle.cose_rules.specs.Labels.{same_label, value_under, value_at}
-use Rattle.cose_rules.specs.Keys.{integer_of, curve_in, is_entry, permits, has_id, key_fault}
+use Rattle.cose_rules.specs.Keys.{integer_of, curve_in, is_entry, permits, part_fault, has_id, key_fault}
 use Rattle.cose_rules.specs.Rule.{first_fault}
 use Rattle.cose_rules.specs.declared.algorithms.Scheme.{Scheme}
 use Rattle.cose_rules.specs.declared.keys.KeyFault.{KeyFault}
@@ -80,3 +80,6 @@ pub fault_by : (s : Scheme) (id : List ℕ) (ks : List CoseKey) (r : Option Cose
 fault_by s id ks r e = ap (λ z. option_and_then (λ (k : CoseKey). key_fault s (key_view k)) z) e
     ∙ then_mapped key_view (key_fault s) (find (λ k. has_id id (key_view k)) ks)
     ∙ ap (λ z. option_and_then (key_fault s) z) (sym (find_map key_view (has_id id) ks))
+
+pub parts_by : (kty : ℤ) (es fs : List (Label × Value)) (r : Option KeyFault) → r ≡ part_fault kty (map entry_view es) → es ≡ fs → r ≡ part_fault kty (map entry_view fs)
+parts_by kty es fs r e same = e ∙ ap (λ z. part_fault kty (map entry_view z)) same

@@ -2,4 +2,4 @@ pub mod Entries
 pub mod Labelled
 pub mod Seen
 pub mod Tokens
-pub mod Untagged
+pub mod Wrapped

@@ -1,6 +1,8 @@
 -- What is seen of headers.
 use Rattle.std.proofs.Common.{◌≡◌, ℕ, ℤ, List, [], ◌∷◌, map, length, Bool, true, false, Option, Some, None, option_map, refl, sym, ap, ◌∙◌, arith, eqb-true}
-use Rattle.std.specs.Prelude.{◌||◌, ◌&&◌, ◌==◌}
+use Rattle.std.specs.Prelude.{◌||◌, ◌&&◌, ◌==◌, min, nat_lt}
+use Rattle.std.proofs.lemmas.Bool.Decides.{nat_tests}
+use Rattle.std.proofs.lemmas.List.{length-map}
 use Rattle.std.specs.List.{list_any, list_all}
 use Rattle.std.proofs.lemmas.Bool.{true≢false}
 use Rattle.std.proofs.lemmas.List.Folds.{list_all-map}
@@ -115,3 +117,10 @@ ruled operation ks m s l r e f g = g ∙ ap (λ z. by_layer operation ks z) f �
 pub of_assigned : (a : RegisteredLabelWithPrivate Algorithm) (x : Algorithm) (i : ℤ) (r : Option Scheme) → a ≡ open_name.Assigned x → i ≡ algorithm_number x
     → r ≡ scheme_with schemes i → r ≡ scheme_of (named_view algorithm_number a)
 of_assigned a x i r e n f = f ∙ ap (λ z. scheme_with schemes z) n ∙ sym (ap (λ z. scheme_of (named_view algorithm_number z)) e)
+
+pub counted_by : (h : Header) (n : ℕ) (es : List (Label × Value)) → n ≡ length es → es ≡ (out-Header h).rest.items → n ≡ length (plain_part (header_view h)).rest
+counted_by h n es e same = e ∙ ap (λ z. length z) same ∙ sym (length-map (out-Header h).rest.items entry_view)
+    ∙ sym (ap (λ z. length (plain_part z).rest) (header_is h))
+
+pub many_by : (n m : ℕ) (b : Bool) → m ≡ min n 18446744073709551615 → b ≡ nat_lt 4096 m → b ≡ nat_lt 4096 n
+many_by n m b e f = grind (arith, nat_tests)

@@ -3,7 +3,7 @@ use Rattle.std.proofs.Common.{◌≡◌, ℕ, ◌-◌, ◌/◌, ◌%◌, ◌^◌
 use Rattle.std.specs.Prelude.{◌||◌, ◌&&◌, nat_eq}
 use Rattle.std.specs.List.{list_any, list_all}
 use Rattle.std.proofs.lemmas.Bool.{true≢false}
-use Rattle.ciborium_value.specs.Kinds.{is_array}
+use Rattle.ciborium_value.specs.Kinds.{is_array, is_text}
 use Rattle.ciborium_value.specs.Tree.{Tree, integer, bytes, text, array, map as map_tree, tag, simple, float}
 use Rattle.ciborium_value.specs.View.{view, views}
 use Rattle.ciborium_value.specs.declared.value.Value.{Value}
@@ -13,7 +13,7 @@ use Rattle.coset_labels.specs.declared.label.Label.{Label}
 use Rattle.coset_headers.specs.View.{entry_view}
 use Rattle.coset_claims.specs.Seconds.{multiple, infinite, no_number, number_by}
 use Rattle.cose_rules.specs.Labels.{same_label, value_under}
-use Rattle.cose_rules.specs.Claims.{is_multiple, is_text_of, any_text_of, is_for, is_text, all_texts, is_audience}
+use Rattle.cose_rules.specs.Claims.{is_multiple, is_text_of, any_text_of, is_for, all_texts, is_audience}
 
 there_case : (b : Bool) (t : Tree) (r : Bool) (o : Option Tree) → r ≡ is_some o → (b || r) ≡ is_some (cond b (Some t) o)
 there_case true t r o e = refl

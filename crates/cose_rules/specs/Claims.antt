@@ -4,6 +4,7 @@ use Rattle.std.specs.List.{list_all}
 use Rattle.std.specs.Str.{bytes_eq}
 use Rattle.std.specs.declared.cmp.Ordering.{Ordering}
 use Rattle.std.specs.declared.cmp.Ordering.TheVariants.{Less, Equal, Greater}
+use Rattle.ciborium_value.specs.Kinds.{is_text}
 use Rattle.ciborium_value.specs.Tree.{Tree, text, array, Trees, no_trees, one_more}
 use Rattle.coset_labels.specs.Fields.{LabelFields}
 use Rattle.coset_claims.specs.Claims.{time_of}
@@ -44,16 +45,19 @@ abbrev pub is_finite : TimeFields → Bool
 is_finite (whole_seconds i) = true
 is_finite (fractional_seconds f) = is_multiple (number_of f)
 
-abbrev pub is_greater : Option Ordering → Bool
-is_greater (Some Greater) = true
-is_greater (Some Equal) = false
-is_greater (Some Less) = false
-is_greater None = false
+abbrev pub is_greater : Ordering → Bool
+is_greater Less = false
+is_greater Equal = false
+is_greater Greater = true
+
+abbrev pub is_some_greater : Option Ordering → Bool
+is_some_greater None = false
+is_some_greater (Some o) = is_greater o
 
 -- whether a time is after a second (section 2, NumericDate), or why it is none: an integer of 64
 -- bits, or a finite float
 abbrev pub later : TimeFields → ℤ → Result Bool TimeFault
-later f n = if is_finite f then Ok (is_greater (time_against f n)) else Err time.NotFinite
+later f n = if is_finite f then Ok (is_some_greater (time_against f n)) else Err time.NotFinite
 
 abbrev pub later_or : Option TimeFields → ℤ → Result Bool TimeFault
 later_or None n = Err time.NotNumber
@@ -93,10 +97,6 @@ is_issuer (Some a) None = false
 is_issuer (Some a) (Some t) = is_text_of a t
 
 -- aud is a text, or an array of texts (section 3.1.3; RFC 7519, section 4.1.3)
-abbrev pub is_text : Tree → Bool
-is_text (text b) = true
-is_text _ = false
-
 abbrev pub all_texts : Trees → Bool
 all_texts no_trees = true
 all_texts (one_more t ts) = is_text t && all_texts ts

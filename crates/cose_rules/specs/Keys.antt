@@ -114,14 +114,18 @@ part_fault kty es =
     else symmetric_fault es
 
 -- why a key isn't one for a scheme: the first of these that holds
+abbrev pub use_fault : Scheme → KeyFields → Option KeyFault
+use_fault s k =
+    if not (allows s.number k.alg) then Some fault.OtherAlgorithm
+    else if not (permits s.operation k.key_ops) then Some fault.OtherOperation
+    else if not (is_named s.number k.alg) then Some fault.NoAlgorithm
+    else part_fault s.kty k.params
+
 abbrev pub key_fault : Scheme → KeyFields → Option KeyFault
 key_fault s k =
     if not (is_entry s.kty k.kty) then Some fault.OtherType
     else if not (are_curves s.curves (curve_in k.params)) then Some fault.OtherCurve
-    else if not (allows s.number k.alg) then Some fault.OtherAlgorithm
-    else if not (permits s.operation k.key_ops) then Some fault.OtherOperation
-    else if not (is_named s.number k.alg) then Some fault.NoAlgorithm
-    else part_fault s.kty k.params
+    else use_fault s k
 
 -- it has this id, which is empty if there is none
 abbrev pub has_id : List ℕ → KeyFields → Bool

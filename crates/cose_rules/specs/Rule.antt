@@ -1,6 +1,6 @@
 -- Whether a question may be asked, and under which keys (RFC 9052, sections 3, 3.1, 7.1 and 8).
 use Rattle.std.specs.Prelude.{ℕ, ℤ, pos, List, [], ◌∷◌, Bool, false, ◌&&◌, Option, None, Some, option_map, option_and_then, if◌then◌else◌}
-use Rattle.std.specs.List.{find, list_any, filter}
+use Rattle.std.specs.List.{find, list_any}
 use Rattle.coset_labels.specs.Fields.{Named}
 use Rattle.coset_headers.specs.Fields.{HeaderFields, ProtectedFields, plain_part}
 use Rattle.coset_keys.specs.Fields.{KeyFields}
@@ -89,11 +89,8 @@ abbrev pub ruling : ℤ → List KeyFields → LayerFields → Option LayerField
 ruling operation keys message signer =
     refused_or (header_refusal message signer) (by_layer operation keys (own_layer message signer))
 
--- the keys to try, in the order of the set
-abbrev pub candidates : Scheme → List ℕ → List KeyFields → List KeyFields
-candidates s id keys = filter (fits s id) keys
-
--- a signature is good under one of the candidates, of which `verifies` says whether it verifies
+-- a signature is good under one of the candidates, the keys that fit, of which `verifies` says whether
+-- it verifies
 abbrev pub is_good : (ℤ → KeyFields → Bool) → List KeyFields → RulingFields → Bool
 is_good verifies keys (ask s id) = list_any (λ k. fits s id k && verifies s.number k) keys
 is_good verifies keys (refuse r) = false

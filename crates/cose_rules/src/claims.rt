@@ -1,6 +1,7 @@
 //! The claims of a token at a time.
 ghost use Rattle.std.specs.Prelude.{◌≡◌, is_some, map, option_map, option_copied, pos};
 ghost use Rattle.std.specs.List.{list_all, list_any};
+ghost use Rattle.ciborium_value.specs.Kinds.{is_text};
 ghost use Rattle.ciborium_value.specs.View.{view};
 ghost use Rattle.coset_headers.specs.View.{entry_view};
 ghost use Rattle.coset_labels.specs.View.{label_view};
@@ -110,12 +111,21 @@ fn is_finite(time: &Timestamp) -> bool
     }
 }
 
-fn is_greater(order: Option<Ordering>) -> bool
+fn is_greater(order: Ordering) -> bool
     ensures { result ≡ spec.is_greater order }
 {
     match order {
-        Some(Ordering::Greater) => true,
-        Some(Ordering::Equal | Ordering::Less) | None => false,
+        Ordering::Less | Ordering::Equal => false,
+        Ordering::Greater => true,
+    }
+}
+
+fn is_some_greater(order: Option<Ordering>) -> bool
+    ensures { result ≡ spec.is_some_greater order }
+{
+    match order {
+        Some(order) => is_greater(order),
+        None => false,
     }
 }
 
@@ -123,7 +133,7 @@ fn later(time: &Timestamp, seconds: i64) -> Result<bool, TimeFault>
     ensures { result ≡ spec.later (time_view time.now) seconds }
 {
     if is_finite(time) {
-        Ok(is_greater(time.partial_cmp_seconds(seconds)))
+        Ok(is_some_greater(time.partial_cmp_seconds(seconds)))
     } else {
         Err(TimeFault::NotFinite)
     }
@@ -185,16 +195,10 @@ fn is_issuer(issuer: Option<&str>, value: Option<&Value>) -> bool
     }
 }
 
-fn is_text(value: &Value) -> bool
-    ensures { result ≡ spec.is_text (view value.now) }
-{
-    matches!(value, Value::Text(_))
-}
-
 fn all_texts(values: &[Value]) -> bool
-    ensures { result ≡ list_all (λ v. spec.is_text (view v)) values.now }
+    ensures { result ≡ list_all (λ v. is_text (view v)) values.now }
 {
-    values.iter().all(|each| is_text(each))
+    values.iter().all(|each| each.is_text())
 }
 
 fn any_text_of(values: &[Value], wanted: &str) -> bool
@@ -209,7 +213,7 @@ fn is_audience(value: &Value) -> bool
 {
     match value.as_array() {
         Some(receivers) => all_texts(receivers),
-        None => is_text(value),
+        None => value.is_text(),
     }
 }
 

@@ -1,6 +1,6 @@
 //! The ruling on a question.
 ghost use Rattle.std.specs.Prelude.{◌≡◌, ◌&&◌, ℕ, ℤ, List, Bool, Option, Some, None, map, option_copied};
-ghost use Rattle.std.specs.List.{find, list_any};
+ghost use Rattle.std.specs.List.{find, list_any, position};
 ghost use Rattle.coset_headers.specs.View.{header_view, protected_view};
 ghost use Rattle.coset_keys.specs.Fields.{KeyFields};
 ghost use Rattle.coset_keys.specs.View.{key_view};
@@ -72,6 +72,14 @@ fn fits_one(keys: &[CoseKey], scheme: Scheme, id: &[u8]) -> bool
     ensures { result ≡ list_any (λ k. one.fits scheme id.now (key_view k)) keys.now }
 {
     keys.iter().any(|key| fits(key, scheme, id))
+}
+
+/// The place of the first candidate of a set, for messages with this key id. The next one is among
+/// the keys after it.
+pub fn first_candidate(keys: &[CoseKey], scheme: Scheme, id: &[u8]) -> Option<usize>
+    ensures { result ≡ position (λ k. one.fits scheme id.now (key_view k)) keys.now }
+{
+    keys.iter().position(|key| fits(key, scheme, id))
 }
 
 /// Whether a key is a candidate.

@@ -9,8 +9,9 @@ ghost use Rattle.cose_rules.specs.Headers as spec;
 ghost use Rattle.cose_rules.specs.Labels.{has_label, label_of};
 
 use crate::labels::{has_crit, has_label, has_number, has_words, share_label};
+use ciborium_value::Value;
 use coset_headers::{Header, ProtectedHeader};
-use coset_labels::RegisteredLabelWithPrivate;
+use coset_labels::{Label, RegisteredLabelWithPrivate};
 use coset_labels::iana::{self, EnumI64};
 
 /// Why the headers of a layer forbid to go on (RFC 9052, sections 3 and 3.1).
@@ -52,8 +53,8 @@ fn all_understood(labels: &[Critical]) -> bool
     labels.iter().all(|label| is_understood(label))
 }
 
-/// Whether each critical label of a header is understood.
-fn are_understood(header: &Header) -> bool
+/// Whether each critical label of a header is understood: 1, 2 or 4.
+pub fn are_understood(header: &Header) -> bool
     ensures { result ≡ spec.are_understood (header_view header.now) }
 {
     all_understood(&header.crit)
@@ -85,17 +86,23 @@ fn are_present(header: &Header) -> bool
     has_all(header, &header.crit)
 }
 
+fn count(entries: &[(Label, Value)]) -> usize
+    ensures { result ≡ length entries.now }
+{
+    entries.len()
+}
+
 /// How many labels outside 1 to 7 a header has.
 fn other_labels(header: &Header) -> usize
     ensures { result ≡ length (plain_part (header_view header.now)).rest }
 {
-    header.rest.len()
+    count(&header.rest)
 }
 
 fn are_many_pairs(labels: usize, others: usize) -> bool
     ensures { result ≡ nat_lt 4096 (labels * others) }
 {
-    u128::from(labels as u64) * u128::from(others as u64) > 4096
+    labels.saturating_mul(others) > 4096
 }
 
 /// Whether both headers have so many labels outside 1 to 7 that they aren't compared.

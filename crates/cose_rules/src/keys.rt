@@ -85,7 +85,7 @@ fn are_curves(curves: Curves, found: Option<Integer>) -> bool
 }
 
 /// Whether a key is of this type.
-fn is_type(kty: &KeyType, number: i64) -> bool
+pub fn is_type(kty: &KeyType, number: i64) -> bool
     ensures { result ≡ spec.is_entry number (registered_view key_types.number kty.now) }
 {
     match kty {
@@ -95,7 +95,7 @@ fn is_type(kty: &KeyType, number: i64) -> bool
 }
 
 /// Whether a key is for this algorithm, or for any.
-fn allows(algorithm: &Option<Algorithm>, number: i64) -> bool
+pub fn allows(algorithm: &Option<Algorithm>, number: i64) -> bool
     ensures { result ≡ spec.allows number (option_map (named_view algorithm_number) algorithm.now) }
 {
     match algorithm {
@@ -137,7 +137,7 @@ fn any_operation(operations: &BTreeSet<KeyOperation>, number: i64) -> bool
 }
 
 /// Whether a key is for this operation, or for any (RFC 9052, section 7.1).
-fn permits(operations: &BTreeSet<KeyOperation>, number: i64) -> bool
+pub fn permits(operations: &BTreeSet<KeyOperation>, number: i64) -> bool
     ensures { result ≡ spec.permits number
         (map (registered_view key_operations.number) operations.now.keys) }
 {
@@ -301,6 +301,21 @@ fn has_curve(key: &CoseKey, curves: Curves) -> bool
     are_curves(curves, curve_in(&key.params))
 }
 
+/// Why a key of the type and on a curve of this scheme isn't one for it.
+fn use_fault(key: &CoseKey, scheme: Scheme) -> Option<KeyFault>
+    ensures { result ≡ spec.use_fault scheme (key_view key.now) }
+{
+    if !allows(&key.alg, scheme.number) {
+        Some(KeyFault::OtherAlgorithm)
+    } else if !permits(&key.key_ops, scheme.operation) {
+        Some(KeyFault::OtherOperation)
+    } else if !is_named(&key.alg, scheme.number) {
+        Some(KeyFault::NoAlgorithm)
+    } else {
+        parts_fault(key, scheme.kty)
+    }
+}
+
 /// Why a key isn't one for this scheme; none if it is: it is of its type and on a curve of it, for
 /// its algorithm or any, for its operation or any, and has the parts that verifying takes.
 pub fn key_fault(key: &CoseKey, scheme: Scheme) -> Option<KeyFault>
@@ -310,14 +325,8 @@ pub fn key_fault(key: &CoseKey, scheme: Scheme) -> Option<KeyFault>
         Some(KeyFault::OtherType)
     } else if !has_curve(key, scheme.curves) {
         Some(KeyFault::OtherCurve)
-    } else if !allows(&key.alg, scheme.number) {
-        Some(KeyFault::OtherAlgorithm)
-    } else if !permits(&key.key_ops, scheme.operation) {
-        Some(KeyFault::OtherOperation)
-    } else if !is_named(&key.alg, scheme.number) {
-        Some(KeyFault::NoAlgorithm)
     } else {
-        parts_fault(key, scheme.kty)
+        use_fault(key, scheme)
     }
 }
 

@@ -3,5 +3,5 @@ use Rattle.ciborium_value.specs.View.{view}
 use Rattle.cose_rules.proofs.Labelled.{set_by, no_set}
 use Rattle.cose_rules.proofs.claims_set.claims_of.Goals as goal
 
-pub returns-in-Err : goal.returns-in-Err
-returns-in-Err c = inr (no_set (view c.args.payload) c.in-Err.ensures.1)
+pub returns : goal.returns
+returns c = inr (no_set (view c.args.payload) c.in-Err.ensures.1)

@@ -1,7 +1,6 @@
-use Rattle.std.proofs.Common.{map, ap, ◌∙◌, rules}
-use Rattle.coset_headers.specs.View.{entry_view}
-use Rattle.cose_rules.specs.Keys.{part_fault}
+use Rattle.std.proofs.Common.{rules}
+use Rattle.cose_rules.proofs.Entries.{parts_by}
 use Rattle.cose_rules.proofs.keys.parts_fault.Goals as goal
 
 pub returns : goal.returns
-returns c = c.part_fault.ensures ∙ ap (λ z. part_fault c.args.kty (map entry_view z)) c.deref.ensures.value
+returns c = parts_by c.args.kty c.deref.result.now c.args.key.now.params.items c.part_fault.result (search rules) c.deref.ensures.value

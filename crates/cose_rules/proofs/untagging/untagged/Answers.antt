@@ -1,6 +1,6 @@
 use Rattle.std.proofs.Common.{arith}
 use Rattle.cose_rules.specs.Untagging.{bare, wrapped}
-use Rattle.cose_rules.proofs.Untagged.{bare_end}
+use Rattle.cose_rules.proofs.Wrapped.{bare_end}
 use Rattle.cose_rules.proofs.untagging.untagged.Goals as goal
 
 pub returns-in-None : goal.returns-in-None
