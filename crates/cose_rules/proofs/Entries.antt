@@ -13,7 +13,6 @@ use Rattle.coset_labels.specs.Fields.{LabelFields, Named}
 use Rattle.coset_labels.specs.View.{label_view}
 use Rattle.coset_labels.specs.declared.label.Label.{Label}
 use Rattle.coset_headers.specs.View.{entry_view}
-use Rattle.coset_keys.specs.Fields.{KeyFields}
 use Rattle.coset_keys.specs.View.{key_view}
 use Rattle.coset_keys.specs.declared.key.CoseKey.{CoseKey}
 use Rattle.cose_rules.specs.Labels.{same_label, value_under, value_at}

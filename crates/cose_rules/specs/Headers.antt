@@ -1,5 +1,5 @@
 -- What the headers of a layer forbid (RFC 9052, sections 3 and 3.1).
-use Rattle.std.specs.Prelude.{ℕ, ℤ, pos, ◌*◌, length, List, Bool, false, ◌||◌, Option, None, Some, nat_lt, if◌then◌else◌}
+use Rattle.std.specs.Prelude.{ℕ, ℤ, pos, ◌*◌, length, Bool, false, ◌||◌, Option, None, Some, nat_lt, if◌then◌else◌}
 use Rattle.std.specs.List.{list_all}
 use Rattle.std.specs.Ordering.{int_eq}
 use Rattle.coset_labels.specs.Fields.{Named, private_use, assigned, named}

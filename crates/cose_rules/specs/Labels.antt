@@ -1,12 +1,12 @@
 -- Which labels a header has (RFC 9052, sections 1.5, 3 and 3.1).
-use Rattle.std.specs.Prelude.{ℕ, ℤ, pos, List, [], ◌∷◌, Bool, true, false, ◌&&◌, ◌||◌, Option, is_some, if◌then◌else◌}
+use Rattle.std.specs.Prelude.{ℤ, pos, List, [], ◌∷◌, Bool, true, false, ◌&&◌, ◌||◌, Option, is_some, if◌then◌else◌}
 use Rattle.std.specs.List.{list_any}
 use Rattle.std.specs.Ordering.{int_eq}
 use Rattle.std.specs.Str.{bytes_eq}
 use Rattle.ciborium_value.specs.Tree.{Tree}
 use Rattle.coset_labels.specs.Entries.{at}
 use Rattle.coset_labels.specs.Fields.{LabelFields, number, words, Named, private_use, assigned, named}
-use Rattle.coset_headers.specs.Fields.{Plain, HeaderFields, header, ProtectedFields, protected, Signatures, no_signatures, signature_more, plain_part}
+use Rattle.coset_headers.specs.Fields.{HeaderFields, header, ProtectedFields, protected, Signatures, no_signatures, signature_more, plain_part}
 
 -- two labels are one
 abbrev pub same_label : LabelFields → LabelFields → Bool

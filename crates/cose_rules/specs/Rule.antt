@@ -1,5 +1,5 @@
 -- Whether a question may be asked, and under which keys (RFC 9052, sections 3, 3.1, 7.1 and 8).
-use Rattle.std.specs.Prelude.{ℕ, ℤ, pos, List, [], ◌∷◌, Bool, false, ◌&&◌, Option, None, Some, option_map, option_and_then, if◌then◌else◌}
+use Rattle.std.specs.Prelude.{ℕ, ℤ, List, [], ◌∷◌, Bool, false, ◌&&◌, Option, None, Some, option_map, option_and_then, if◌then◌else◌}
 use Rattle.std.specs.List.{find, list_any}
 use Rattle.coset_labels.specs.Fields.{Named}
 use Rattle.coset_headers.specs.Fields.{HeaderFields, ProtectedFields, plain_part}

@@ -1,5 +1,5 @@
 -- What the terms of the code say.
-use Rattle.std.specs.Prelude.{ℕ, List, Option, map, option_copied}
+use Rattle.std.specs.Prelude.{map, option_copied}
 use Rattle.coset_labels.specs.View.{label_view}
 use Rattle.cose_rules.specs.Claims.{Receiver, nobody, somebody, anyone, TermsFields}
 use Rattle.cose_rules.specs.declared.claims.TokenTerms.{TokenTerms}

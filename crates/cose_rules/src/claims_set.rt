@@ -43,11 +43,7 @@ fn label_of(key: Value) -> Option<Label>
 }
 
 /// Appends an entry with its label.
-fn read_claim(
-    claims: &mut Vec<(Label, Value)>,
-    key: Value,
-    value: Value,
-) -> Result<(), NoClaims>
+fn read_claim(claims: &mut Vec<(Label, Value)>, key: Value, value: Value) -> Result<(), NoClaims>
     ensures { MatchResult result (λ _. ReadsClaim (view key) (view value)
         (map entry_view claims.old.items) (map entry_view claims.new.items))
         (λ e. (e ≡ Memory) ⊎ ((e ≡ NotLabels) × (labels.label_of (view key) ≡ None))) }
@@ -62,10 +58,7 @@ fn read_claim(
 }
 
 /// The entries with their labels.
-fn labelled(
-    alloc: Global,
-    pairs: Vec<(Value, Value)>,
-) -> Result<Vec<(Label, Value)>, NoClaims>
+fn labelled(alloc: Global, pairs: Vec<(Value, Value)>) -> Result<Vec<(Label, Value)>, NoClaims>
     ensures { MatchResult result
         (λ v. entries labels.label_of (view_pairs pairs.items) ≡ Some (map entry_view v.items))
         (λ e. (e ≡ Memory) ⊎ ((e ≡ NotLabels)

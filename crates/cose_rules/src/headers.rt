@@ -11,8 +11,8 @@ ghost use Rattle.cose_rules.specs.Labels.{has_label, label_of};
 use crate::labels::{has_crit, has_label, has_number, has_words, share_label};
 use ciborium_value::Value;
 use coset_headers::{Header, ProtectedHeader};
-use coset_labels::{Label, RegisteredLabelWithPrivate};
 use coset_labels::iana::{self, EnumI64};
+use coset_labels::{Label, RegisteredLabelWithPrivate};
 
 /// Why the headers of a layer forbid to go on (RFC 9052, sections 3 and 3.1).
 #[derive(Debug, Clone, Copy, PartialEq, Eq)]

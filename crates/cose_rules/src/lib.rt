@@ -13,9 +13,7 @@ mod untagging;
 mod verifying;
 
 pub use crate::algorithms::{Curves, MAC_VERIFY, Scheme, VERIFY, scheme_of};
-pub use crate::claims::{
-    Audience, ClaimRefusal, TimeFault, TokenTerms, claims_refusal, has_claim,
-};
+pub use crate::claims::{Audience, ClaimRefusal, TimeFault, TokenTerms, claims_refusal, has_claim};
 pub use crate::claims_set::{NoClaims, claims_of};
 pub use crate::deciding::{Layer, Refusal, Ruling, first_candidate, id_in, rule};
 pub use crate::headers::{HeaderFault, are_understood, layer_fault};

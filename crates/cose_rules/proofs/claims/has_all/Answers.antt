@@ -1,4 +1,4 @@
-use Rattle.std.proofs.Common.{◌∙◌, map, Bool, sym}
+use Rattle.std.proofs.Common.{◌∙◌, map, sym}
 use Rattle.std.specs.Prelude.{is_some}
 use Rattle.std.proofs.lemmas.List.Folds.{list_all-map}
 use Rattle.coset_headers.specs.View.{entry_view}
