@@ -1,0 +1,10 @@
+pub mod Algorithms
+pub mod Claims
+pub mod ClaimsSet
+pub mod Headers
+pub mod Keys
+pub mod Labels
+pub mod Rule
+pub mod Ruled
+pub mod TokenView
+pub mod Untagging
