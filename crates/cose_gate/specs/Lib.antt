@@ -6,6 +6,7 @@ pub mod Streaming
 pub use Rattle.cose_gate_core.specs.Asked
 pub use Rattle.cose_gate_core.specs.Calls
 pub use Rattle.cose_gate_core.specs.Findings
+pub use Rattle.cose_gate_core.specs.GateRun
 pub use Rattle.cose_gate_core.specs.Lent
 pub use Rattle.cose_gate_core.specs.Outcome
 pub use Rattle.cose_gate_core.specs.Passing

@@ -1,5 +1,5 @@
 -- What is found of an item is there, and so is a run over each input.
-use Rattle.std.proofs.Common.{◌≡◌, ◌≢◌, ℕ, ◌+◌, ◌⊎◌, inl, inr, List, [], ◌∷◌, ◌++◌, length, map, Bool, Option, Some, None, refl, sym, ap, subst}
+use Rattle.std.proofs.Common.{◌≡◌, ◌≢◌, ℕ, ◌+◌, ◌⊎◌, inl, inr, List, [], ◌∷◌, ◌++◌, length, map, Bool, true, false, Option, Some, None, refl, sym, ap, subst, ◌∙◌}
 use Rattle.std.specs.Prelude.{All}
 use Rattle.std.proofs.lemmas.Bool.{cases_eq}
 use Rattle.std.proofs.lemmas.List.{map-append}
@@ -15,13 +15,12 @@ use Rattle.coset_labels.specs.declared.error.CoseError.{CoseError}
 use Rattle.coset_labels.specs.declared.error.CoseError.TheVariants as code
 use Rattle.coset_signed.specs.Shapes.{HasSign1, HasSign}
 use Rattle.coset_maced.specs.Shapes.{HasMac0, HasMac}
-use Rattle.cose_gate_core.specs.Questions.{Question, MessageFields, sign1, mac0, sign, mac, number_of, kind_of, payload_of, questions}
+use Rattle.cose_gate_core.specs.Questions.{Question, MessageFields, sign1, mac0, sign, mac, number_of, kind_of, payload_of, message_text, questions}
 use Rattle.cose_gate_core.specs.Asked.{first_no}
-use Rattle.cose_gate_core.specs.Findings.{Finding, judged, barred, excluded, not_tagged, encrypted, other_tag, shape, detached, no_signature, Bounds, HasMessage, WrongMessage, IsMessage, IsMessageTag, IsEncryptedTag, IsCarried, IsUnsigned, Finds}
+use Rattle.cose_gate_core.specs.Findings.{Finding, judged, barred, not_tagged, encrypted, other_tag, shape, detached, no_signature, not_shortest, Bounds, HasMessage, WrongMessage, IsMessage, IsMessageTag, IsEncryptedTag, IsCarried, IsUnsigned, Finds}
 use Rattle.cose_gate_core.specs.Run.{Step, Steps, Run, Course, IsVerdict, judged_by}
 use Rattle.cose_gate_core.specs.declared.about.MessageKind.{MessageKind}
 use Rattle.cose_gate_core.specs.declared.about.MessageKind.TheVariants as kind
-use Rattle.cose_gate_core.specs.declared.report.Refusal.{Refusal}
 use Rattle.cose_gate_core.specs.declared.report.Refusal.TheVariants as refusal
 use Rattle.cose_gate_core.specs.declared.report.Verdict.{Verdict}
 use Rattle.cose_gate_core.specs.declared.report.Verdict.TheVariants.{Refused}
@@ -33,6 +32,26 @@ use Rattle.cose_gate_core.proofs.MacCases.{mac0_case, mac_case}
 option_cases : {A : Type 0} (o : Option A) → (o ≡ None) ⊎ ((x : A) × (o ≡ Some x))
 option_cases None = inl refl
 option_cases (Some x) = inr (x, refl)
+
+same_or_not : (xs ys : List ℕ) → (xs ≡ ys) ⊎ (xs ≢ ys)
+same_or_not [] [] = inl refl
+same_or_not [] (y ∷ ys) = inr (λ e. let h : [] ≡ y ∷ ys = e in cc)
+same_or_not (x ∷ xs) [] = inr (λ e. let h : x ∷ xs ≡ [] = e in cc)
+same_or_not (x ∷ xs) (y ∷ ys) = go (cases_eq x y) (same_or_not xs ys)
+  where
+    go : (x ≡ y) ⊎ (x ≢ y) → (xs ≡ ys) ⊎ (xs ≢ ys) → (x ∷ xs ≡ y ∷ ys) ⊎ (x ∷ xs ≢ y ∷ ys)
+    go (inl e) (inl f) = inl (ap (λ z. z ∷ xs) e ∙ ap (λ zs. y ∷ zs) f)
+    go (inr n) f = inr (λ e. n (let h : x ∷ xs ≡ y ∷ ys = e in cc))
+    go (inl e) (inr n) = inr (λ e. n (let h : x ∷ xs ≡ y ∷ ys = e in cc))
+
+-- a message may pass a gate that isn't strict, or is what would be written; or neither
+text_cases : (strict : Bool) (xs ys : List ℕ) → (strict ≡ true → xs ≡ ys) ⊎ ((strict ≡ true) × (xs ≢ ys))
+text_cases false xs ys = inl (λ s. (let h : false ≡ true = s in cc))
+text_cases true xs ys = go (same_or_not xs ys)
+  where
+    go : (xs ≡ ys) ⊎ (xs ≢ ys) → (true ≡ true → xs ≡ ys) ⊎ ((true ≡ true) × (xs ≢ ys))
+    go (inl e) = inl (λ s. e)
+    go (inr n) = inr (refl, n)
 
 list_cases : {A : Type 0} (xs : List A) → (xs ≡ []) ⊎ (xs ≢ [])
 list_cases [] = inl refl
@@ -88,15 +107,16 @@ module _ (l : Bounds) where
   abbrev Found : List ℕ → Tree → Type 0
   Found b t = (f : Finding) × Finds l b t f
 
-  judged_or_not : (b : List ℕ) (t : Tree) (m : MessageFields) → IsMessage l t m → (payload_of m ≡ None) ⊎ IsCarried m → IsUnsigned m ⊎ (IsUnsigned m → ⊥) → (l.excludes b m ≡ None) ⊎ ((r : Refusal) × (l.excludes b m ≡ Some r)) → Found b t
+  judged_or_not : (b : List ℕ) (t : Tree) (m : MessageFields) → IsMessage l t m → (payload_of m ≡ None) ⊎ IsCarried m → IsUnsigned m ⊎ (IsUnsigned m → ⊥)
+      → (l.strict ≡ true → b ≡ message_text m) ⊎ ((l.strict ≡ true) × (b ≢ message_text m)) → Found b t
   judged_or_not b t m i (inl e) u x = (barred detached, (m, i, e))
   judged_or_not b t m i (inr c) (inl u) x = (barred no_signature, (m, i, c, u))
   judged_or_not b t m i (inr c) (inr u) (inl x) = (judged m, ((i, c, u), x))
-  judged_or_not b t m i (inr c) (inr u) (inr (r, x)) = (excluded m r, ((i, c, u), x))
+  judged_or_not b t m i (inr c) (inr u) (inr x) = (barred not_shortest, (m, (i, c, u), x))
 
   message_found : (b : List ℕ) (k : MessageKind) (u : Tree) → MessageCase k u → Found b (tag (number_of k) u)
   message_found b k u (inl (m, e, h)) =
-      judged_or_not b (tag (number_of k) u) m (u, ap (λ j. tag (number_of j) u) (sym e), h) (option_cases (payload_of m)) (unsigned_cases m) (option_cases (l.excludes b m))
+      judged_or_not b (tag (number_of k) u) m (u, ap (λ j. tag (number_of j) u) (sym e), h) (option_cases (payload_of m)) (unsigned_cases m) (text_cases l.strict b (message_text m))
   message_found b k u (inr (f, w)) = (barred shape, (f, (k, u, refl, w)))
 
   tag_found : (b : List ℕ) (n : ℕ) (u : Tree) → Low u → IsEncryptedTag n ⊎ (IsEncryptedTag n → ⊥) → IsMessageTag n ⊎ (IsMessageTag n → ⊥) → Found b (tag n u)
@@ -141,7 +161,6 @@ error_there misplaced = (code.DecodeFailed (de.Semantic (Some 0) semantic_kind.W
 module _ (l : Bounds) (allows : Question → Bool) (aad : List ℕ) where
   verdict_there : (b : List ℕ) (t : Tree) (f : Finding) → Finds l b t f → (v : Verdict) × IsVerdict l allows aad t f v
   verdict_there b t (judged m) h = (judged_by (first_no allows (questions m aad)), refl)
-  verdict_there b t (excluded m r) h = (Refused r, refl)
   verdict_there b t (barred not_tagged) h = (Refused refusal.NotTagged, refl)
   verdict_there b t (barred encrypted) h = (Refused refusal.Encrypted, refl)
   verdict_there b t (barred (other_tag n)) h = (Refused (refusal.OtherTag n), refl)
@@ -150,6 +169,7 @@ module _ (l : Bounds) (allows : Question → Bool) (aad : List ℕ) where
       (Refused (refusal.Shape x.0), (x.0, refl, (k, u, e, subst (WrongMessage l k u) (sym x.1) w)))
   verdict_there b t (barred detached) h = (Refused refusal.Detached, refl)
   verdict_there b t (barred no_signature) h = (Refused refusal.NoSignature, refl)
+  verdict_there b t (barred not_shortest) h = (Refused refusal.NotShortest, refl)
 
   -- ---- steps over items
   record StepsOver (n : ℕ) (is : List Item) : Type 0 where

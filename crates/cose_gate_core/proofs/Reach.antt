@@ -15,9 +15,10 @@ use Rattle.cose_gate_core.specs.declared.report.Entry.{Entry}
 use Rattle.cose_gate_core.specs.declared.report.Verdict.{Verdict}
 use Rattle.cose_gate_core.specs.Questions.{Question, questions}
 use Rattle.cose_gate_core.specs.Asked.{first_no, folded_over}
-use Rattle.cose_gate_core.specs.Findings.{Finding, judged, barred, excluded, not_tagged, encrypted, other_tag, shape, detached, no_signature, Bounds, Finds}
+use Rattle.cose_gate_core.specs.Findings.{Finding, judged, barred, not_tagged, encrypted, other_tag, shape, detached, no_signature, not_shortest, Bounds, Finds}
 use Rattle.cose_gate_core.specs.Run.{Step, Steps, IsVerdict, judged_by, has_passed, passes, asked_of, written_of, questions_of, output_of, entries_of}
-use Rattle.cose_gate_core.specs.Outcome.{Rules, GateState, Reached}
+use Rattle.cose_gate_core.specs.Outcome.{Rules, GateState}
+use Rattle.cose_gate_core.specs.Next.{Reached}
 
 -- lists
 pub folded_append : {S X : Type 0} (step : S → X → S) (s : S) (xs ys : List X) → folded_over step s (xs ++ ys) ≡ folded_over step (folded_over step s xs) ys
@@ -86,7 +87,7 @@ module _ (limits : Bounds) (allows : Question → Bool) (aad : List ℕ) where
   verdict_passes t (barred shape) v e = ap has_passed e.1
   verdict_passes t (barred detached) v e = ap has_passed e
   verdict_passes t (barred no_signature) v e = ap has_passed e
-  verdict_passes t (excluded m r) v e = ap has_passed e
+  verdict_passes t (barred not_shortest) v e = ap has_passed e
 
   steps_then : (n : ℕ) (ss : List Step) (s : Step) → Steps limits allows aad n ss → Finds limits s.item.bytes s.item.value s.finding → s.entry.number ≡ n + length ss → s.entry.offset ≡ s.item.offset
       → IsVerdict limits allows aad s.item.value s.finding s.entry.verdict → Steps limits allows aad n (ss ++ s ∷ [])

@@ -5,7 +5,7 @@ use Rattle.cose_gate_core.specs.declared.report.Entry.{Entry}
 use Rattle.cose_gate_core.specs.declared.report.Verdict.{Verdict}
 use Rattle.cose_gate_core.specs.declared.report.Verdict.TheVariants.{Refused}
 use Rattle.cose_gate_core.specs.declared.report.Refusal.TheVariants as refusal
-use Rattle.cose_gate_core.specs.Questions.{Question, MessageFields}
+use Rattle.cose_gate_core.specs.Questions.{Question}
 use Rattle.cose_gate_core.specs.Findings.{Bounds}
 use Rattle.cose_gate_core.specs.Run.{Step, IsVerdict}
 
@@ -59,8 +59,3 @@ AreEntries limits allows aad (s ∷ ss) (e ∷ es) =
     × (e.offset ≡ s.entry.offset)
     × IsVerdict limits allows aad s.item.value s.finding e.verdict
     × AreEntries limits allows aad ss es
-
--- what else bars a message doesn't depend on how its item is encoded
-abbrev pub IgnoresSpelling : Bounds → Type 0
-IgnoresSpelling limits =
-    (b c : List ℕ) (m : MessageFields) → limits.excludes b m ≡ limits.excludes c m

@@ -7,7 +7,7 @@ use Rattle.coset_labels.specs.Faults.{fault_of}
 use Rattle.coset_labels.specs.declared.error.CoseError.{CoseError}
 use Rattle.cose_gate_core.specs.Questions.{Question, questions, message_text}
 use Rattle.cose_gate_core.specs.Asked.{asked, first_no}
-use Rattle.cose_gate_core.specs.Findings.{not_tagged, encrypted, other_tag, shape, detached, no_signature, Finding, judged, barred, excluded, Bounds, Finds, IsMisshapen}
+use Rattle.cose_gate_core.specs.Findings.{not_tagged, encrypted, other_tag, shape, detached, no_signature, not_shortest, Finding, judged, barred, Bounds, Finds, IsMisshapen}
 use Rattle.cose_gate_core.specs.declared.report.Entry.{Entry}
 use Rattle.cose_gate_core.specs.declared.report.Verdict.{Verdict}
 use Rattle.cose_gate_core.specs.declared.report.Verdict.TheVariants.{Passed, Refused}
@@ -39,7 +39,7 @@ IsVerdict limits allows aad t (barred shape) v =
     (e : CoseError) × (v ≡ Refused (refusal.Shape e)) × IsMisshapen limits t (fault_of e)
 IsVerdict limits allows aad t (barred detached) v = v ≡ Refused refusal.Detached
 IsVerdict limits allows aad t (barred no_signature) v = v ≡ Refused refusal.NoSignature
-IsVerdict limits allows aad t (excluded m r) v = v ≡ Refused r
+IsVerdict limits allows aad t (barred not_shortest) v = v ≡ Refused refusal.NotShortest
 
 -- the steps from number n on: each finds what is there, and its entry says so
 abbrev pub Steps : Bounds → (Question → Bool) → List ℕ → ℕ → List Step → Type 0
@@ -55,18 +55,15 @@ Steps limits allows aad n (s ∷ ss) =
 abbrev pub asked_of : (Question → Bool) → List ℕ → Finding → List Question
 asked_of allows aad (judged m) = asked allows (questions m aad)
 asked_of allows aad (barred r) = []
-asked_of allows aad (excluded m r) = []
 
 -- whether it passes: a yes to each question
 abbrev pub passes : (Question → Bool) → List ℕ → Finding → Bool
 passes allows aad (judged m) = is_none (first_no allows (questions m aad))
 passes allows aad (barred r) = false
-passes allows aad (excluded m r) = false
 
 abbrev pub text_of : Finding → List ℕ
 text_of (judged m) = message_text m
 text_of (barred r) = []
-text_of (excluded m r) = []
 
 -- what is written of it: its canonical encoding if it passes, else nothing
 abbrev pub written_of : (Question → Bool) → List ℕ → Finding → List ℕ

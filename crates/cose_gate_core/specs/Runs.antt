@@ -1,9 +1,20 @@
 -- What runs have in common.
-use Rattle.std.specs.Prelude.{◌≡◌, ℕ, List, ◌∷◌, ◌++◌, length, map, Bool, false}
+use Rattle.std.specs.Prelude.{◌≡◌, ℕ, List, ◌∷◌, ◌++◌, length, map, Bool, false, Result, Ok, Err}
 use Rattle.cose_gate_core.specs.Questions.{Question}
 use Rattle.cose_gate_core.specs.Asked.{IsFront}
 use Rattle.cose_gate_core.specs.Run.{Step, asked_of, passes, questions_of, output_of, entries_of}
 use Rattle.cose_gate_core.specs.Anew.{entry_behind, SameEntries, SameVerdicts, EntriesBegin}
+use Rattle.cose_gate_core.specs.GateRun.{IfOfBytes}
+use Rattle.cose_gate_core.specs.declared.gating.Counts.{Counts}
+use Rattle.cose_gate_core.specs.declared.gating.GateFault.{GateFault}
+use Rattle.cose_gate_core.specs.declared.gating.GateFault.TheVariants.{Decode}
+
+-- P holds if the gate went through all items: neither reader nor writer failed, memory was found,
+-- and offsets fit
+abbrev pub IfThrough : {E : Type 0} → (E → Bool) → Result Counts (GateFault E) → Type 0 → Type 0
+IfThrough ends (Ok counts) P = P
+IfThrough ends (Err (Decode e)) P = IfOfBytes ends P e
+IfThrough ends (Err fault) P = Unit {0}
 
 -- the steps ss are a beginning of the steps rs: their items, questions, output and entries
 pub record BeginsRun (allows : Question → Bool) (aad : List ℕ) (ss rs : List Step) : Type 0 where
