@@ -1,7 +1,6 @@
 -- Offsets grow too long only near to what they can be.
 use Rattle.std.proofs.Common.{◌≡◌, ◌≤◌, ◌+◌, ◌^◌, ℕ, Bool, List, Option, arith}
-use Rattle.ciborium_ll.specs.Device.{IsShort}
-use Rattle.ciborium_ll.specs.Reading.{Moves, RawFault, Tells as HeadTells, Ends, IsBadByte}
+use Rattle.ciborium_ll.specs.Reading.{Moves, Tells as HeadTells, Ends, IsBadByte}
 use Rattle.ciborium_ll.specs.declared.hdr.Error.{Error as HeadError}
 use Rattle.ciborium_ll.specs.declared.hdr.Error.TheVariants as below
 use Rattle.ciborium.specs.declared.de.Error.{Error}
@@ -34,14 +33,6 @@ far_item l l' at at' (de.Semantic o k) t = λ same. cc
 far_item l l' at at' de.RecursionLimitExceeded t = λ same. cc
 far_item l l' at at' de.Memory t = λ same. cc
 far_item l l' at at' de.TooLong t = λ same. let n : 2 ^ 64 ≤ at' + 4096 = t.has in omega arith
-
--- a piece of the payload
-pub far_read : {E : Type 0} (ends : E → Bool) (l : Option (List ℕ)) (o₀ o₁ count room : ℕ) (Waits : Type 0) (e : HeadError E) → RawFault ends (IsShort l count) (2 ^ 64 ≤ o₀ + count) Waits e → o₁ ≡ o₀ → count ≤ room
-    → IsFarFor room o₁ (fault_by (lifted e))
-far_read ends l o₀ o₁ count room Waits (below.Io x) w stays le = λ same. cc
-far_read ends l o₀ o₁ count room Waits (below.Syntax p) w stays le = absurd w
-far_read ends l o₀ o₁ count room Waits below.TooLong w stays le = λ same. omega arith
-far_read ends l o₀ o₁ count room Waits below.Waiting w stays le = λ same. cc
 
 -- a fault of shape
 pub far_shape : {E : Type 0} (room at : ℕ) (e : CoseError) → IsFarFor {E = E} room at (shape_by e)

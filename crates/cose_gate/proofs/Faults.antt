@@ -1,5 +1,5 @@
 -- What faults of the streaming check tell, step by step.
-use Rattle.std.proofs.Common.{is_some, true, false, ◌≡◌, ◌≢◌, ◌≤◌, ◌+◌, ◌-◌, ◌^◌, ◌⊎◌, inl, inr, ℕ, Bool, List, ◌∷◌, ◌++◌, length, Option, None, Some, refl, sym, ap, subst, ◌∙◌, arith, length-append}
+use Rattle.std.proofs.Common.{◌≡◌, ◌≢◌, ◌≤◌, ◌+◌, ◌-◌, ◌^◌, ◌⊎◌, inl, inr, ℕ, Bool, List, ◌∷◌, ◌++◌, length, Option, None, Some, refl, sym, ap, subst, ◌∙◌, arith, length-append}
 use Rattle.std.specs.Io.KnownBytes.{prepend_known}
 use Rattle.ciborium_ll.specs.declared.hdr.Header.{Header}
 use Rattle.ciborium_ll.specs.declared.hdr.Header.TheVariants.{Break, Simple}
@@ -25,7 +25,7 @@ use Rattle.coset_labels.specs.declared.error.CoseError.TheVariants as cose
 use Rattle.cose_gate.specs.declared.fault.StreamFault.{StreamFault}
 use Rattle.cose_gate.specs.declared.fault.StreamFault.TheVariants as fault
 use Rattle.cose_gate.specs.Streaming.{Why, damaged, untagged, tagged, shape, without_payload, without_length, refused, HoldsNoMemory, Tells, IsLongFor, fault_by, shape_by}
-use Rattle.cose_gate.specs.ElementFaults.{TitleFault, PartFault, NoBreak, IsUnexpected, WrongPart, NoneWrong}
+use Rattle.cose_gate.specs.ElementFaults.{TitleFault, PartFault, NoBreak, IsUnexpected, WrongPart}
 
 -- what a fault says if l was left and o was the offset
 abbrev pub Names : {E : Type 0} → (E → Bool) → (ℕ → List ℕ → Why → Type 0) → ℕ → Option (List ℕ) → ℕ → StreamFault E → Type 0
@@ -216,20 +216,6 @@ pub part_refused : {E : Type 0} (ends : E → Bool) (k : ℕ) (W : Tree → Cose
 part_refused ends k W l₀ l₁ o₀ o₁ v e t named (inl m) = part_wrong ends k (WrongPart W) l₀ l₁ o₀ o₁ v e t named (λ n. absurd (n m))
 part_refused ends k W l₀ l₁ o₀ o₁ v e t named (inr w) = part_wrong ends k (WrongPart W) l₀ l₁ o₀ o₁ v e t named (λ n. w)
 
-pub part_weaker : {E : Type 0} (ends : E → Bool) (k : ℕ) (W : CoseFault → Tree → Type 0) (l : Option (List ℕ)) (o : ℕ) (f : StreamFault E)
-    → Names ends (PartFault k NoneWrong) 0 l o f → Names ends (PartFault k W) 0 l o f
-part_weaker ends k W l o f names = known_tells ends l o 0 0 (PartFault k NoneWrong) (PartFault k W) f (omega arith) go names
-  where
-    go : (stop : ℕ) (b : List ℕ) (w : Why) → length b ≤ stop → PartFault k NoneWrong stop b w → PartFault k W stop b w
-    go stop b (damaged f) le d = d
-    go stop b untagged le d = d
-    go stop b (tagged n) le d = d
-    go stop b (shape e) le (inl d) = inl d
-    go stop b (shape e) le (inr d) = absurd d.3
-    go stop b without_payload le d = d
-    go stop b without_length le d = d
-    go stop b refused le d = d
-
 -- a fault of a shape that was not expected
 unexpected_tells : {E : Type 0} (ends : E → Bool) (D : Why → Type 0) (long : Type 0) (f : StreamFault E) → IsUnexpected f → D (shape unexpected) → Tells ends D long f
 unexpected_tells ends D long (fault.Shape e) u d = subst (λ (z : CoseFault). D (shape z)) (sym u) d
@@ -253,7 +239,3 @@ unexpected_here ends l₀ l₁ o₀ o₁ h D f t u d = (unexpected_holds f u, go
     go None l₁ t = tt
     go (Some b) None t = absurd t.taken
     go (Some b) (Some rest) t = unexpected_tells ends (D (o₀ + length b) b) (IsLongFor 0 o₀ b) f u (d (o₀ + length b) b rest (record { title = t.bytes; is_title = t.has; whole = t.taken }))
-
-pub not_some : (o : Option ℕ) → is_some o ≡ false → o ≡ None
-not_some None e = refl
-not_some (Some n) e = absurd (let k : true ≡ false = e in cc)

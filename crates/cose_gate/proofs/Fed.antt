@@ -1,22 +1,17 @@
 -- The payload on its way to the judge.
-use Rattle.std.proofs.Common.{◌≡◌, ◌+◌, ◌-◌, ◌≤◌, ◌<◌, ◌^◌, ℕ, Bool, List, [], ◌∷◌, ◌++◌, length, Option, None, Some, refl, sym, ap, subst, ◌∙◌, arith, append_assoc, length-append}
+use Rattle.std.proofs.Common.{◌≡◌, ◌+◌, ◌-◌, ◌≤◌, ◌<◌, ◌^◌, ℕ, List, [], ◌∷◌, ◌++◌, length, Option, Some, refl, sym, ap, subst, ◌∙◌, arith, append_assoc, length-append}
 use Rattle.std.specs.Prelude.{min, take}
 use Rattle.std.proofs.lemmas.List.{take_at}
 use Rattle.std.specs.Io.KnownBytes.{Consumes}
-use Rattle.ciborium_ll.specs.Reading.{Moves, RawFault}
-use Rattle.ciborium_ll.specs.Device.{IsShort}
+use Rattle.ciborium_ll.specs.Reading.{Moves}
 use Rattle.ciborium_ll.specs.Title.{title_of}
 use Rattle.ciborium_ll.specs.declared.hdr.Header.TheVariants.{Bytes}
-use Rattle.ciborium_ll.specs.declared.hdr.Error.{Error as HeadError}
 use Rattle.ciborium_ll.specs.declared.hdr.Error.TheVariants as below
-use Rattle.ciborium.specs.Reading.{IfKnown, lifted}
 use Rattle.ciborium.proofs.Once.{append_nil}
 use Rattle.ciborium.proofs.Taking.{takes_then, takes_as, takes_none}
 use Rattle.cose_gate_core.specs.Questions.{Subject}
 use Rattle.cose_gate.specs.Stated.{Cut}
-use Rattle.cose_gate.specs.Streaming.{Tells, IsLongFor, fault_by}
-use Rattle.cose_gate.specs.ElementFaults.{Split, ShortFault}
-use Rattle.cose_gate.proofs.Faults.{Names, fault_holds}
+use Rattle.cose_gate.specs.ElementFaults.{Split}
 
 -- the bytes b of a payload of `size` were fed, and are as P says, and `due` are to come
 abbrev pub Fed : {J : Type 0} → (J → Subject → List ℕ → Type 0) → J → J → (List ℕ → Type 0) → ℕ → ℕ → List ℕ → Type 0
@@ -47,9 +42,6 @@ module _ {J : Type 0} (holds : J → Subject → List ℕ → Type 0) where
       → Moves l₀ l₁ o₀ o₁ (λ (x : List ℕ). (length x ≡ size) × (((subject : Subject) (bytes : List ℕ) → holds a subject bytes → holds b subject (bytes ++ x)) × P x))
   fed_all a b P size due l₀ l₁ o₀ o₁ t none = takes_as l₀ l₁ o₀ o₁ _ _ t (λ x p. (omega (arith, p.0), p.1))
 
-pub begun_start : (room size : ℕ) (old : List ℕ) → Begun room size size old old
-begun_start room size old = ([], append_nil old, λ more c. c)
-
 pub begun_more : (room size due due' count : ℕ) (old mid new piece : List ℕ) → Begun room size due old mid → count ≡ min due room → 0 < due → due' + count ≡ due → length piece ≡ count → new ≡ mid ++ length piece ∷ []
     → Begun room size due' old new
 begun_more room size due due' count old mid new piece b is some left len grown =
@@ -61,27 +53,6 @@ begun_more room size due due' count old mid new piece b is some left len grown =
 
 pub begun_all : (room size due : ℕ) (old new : List ℕ) → Begun room size due old new → due ≡ 0 → Split size room old new
 begun_all room size due old new b none = (b.0, b.1, subst (λ (z : List ℕ). Cut room size z) (sym (append_nil b.0)) (b.2 [] none))
-
--- too few bytes are left
-pub short_names : {E J : Type 0} (ends : E → Bool) (holds : J → Subject → List ℕ → Type 0) (a b : J) (P : List ℕ → Type 0) (size due count room : ℕ) (l₀ l₁ : Option (List ℕ)) (o₀ o₁ : ℕ) (Waits : Type 0) (e : HeadError E)
-    → Moves l₀ l₁ o₀ o₁ (Fed holds a b P size due) → count ≤ due → count ≤ room → (Waits → ⊥) → RawFault ends (IsShort l₁ count) (2 ^ 64 ≤ o₁ + count) Waits e
-    → Names ends (λ stop b. ShortFault size b) room l₀ o₀ (fault_by (lifted e))
-short_names ends holds a b P size due count room l₀ l₁ o₀ o₁ Waits e t le fit never w = (fault_holds (lifted e), place l₀ l₁ t w)
-  where
-    place : (l₀ l₁ : Option (List ℕ)) → Moves l₀ l₁ o₀ o₁ (Fed holds a b P size due) → RawFault ends (IsShort l₁ count) (2 ^ 64 ≤ o₁ + count) Waits e
-        → IfKnown l₀ (λ b. Tells ends (ShortFault size b) (IsLongFor room o₀ b) (fault_by (lifted e)))
-    place None l₁ t w = tt
-    place (Some x) None t w = absurd t.taken
-    place (Some x) (Some rest) t w = go e w
-      where
-        total : length x ≡ length t.bytes + length rest
-        total = ap length t.taken ∙ length-append t.bytes rest
-
-        go : (e : HeadError _) → RawFault ends (IsShort (Some rest) count) (2 ^ 64 ≤ o₁ + count) Waits e → Tells ends (ShortFault size x) (IsLongFor room o₀ x) (fault_by (lifted e))
-        go (below.Io e) w = λ ended. let s : length rest < count = w ended in let k : length t.bytes + due ≡ size = t.has.0 in let u = total in omega arith
-        go (below.Syntax p) w = absurd w
-        go below.TooLong w = let u = total in let v : o₁ ≡ o₀ + length t.bytes = t.grown in omega arith
-        go below.Waiting w = absurd (never w)
 
 pub take_front : (n : ℕ) (xs ys : List ℕ) → length xs ≡ n → take n (xs ++ ys) ≡ xs
 take_front n xs ys e = take_at xs ys n e

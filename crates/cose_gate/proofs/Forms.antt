@@ -1,5 +1,5 @@
 -- What holds of both kinds of message.
-use Rattle.std.proofs.Common.{◌≡◌, ◌≢◌, ℕ, inl, inr, List, [], ◌∷◌, false, None, Some, refl, sym, ◌∙◌, arith}
+use Rattle.std.proofs.Common.{◌≡◌, ◌≢◌, ℕ, inl, inr, List, [], ◌∷◌, false, None, Some, refl, ◌∙◌, arith}
 use Rattle.ciborium_value.specs.Tree.{Tree, array, tag, Trees, tree_count, bytes, is_bytes}
 use Rattle.ciborium_value.specs.View.{trees}
 use Rattle.coset_headers.specs.Fields.{HeaderFields, ProtectedFields, protected}
@@ -109,10 +109,6 @@ judged_of l form.Mac0 a b p u payload s hp hu = (
   (payload, refl),
   λ n. n,
 )
-
--- the bytes of a protected header that was read
-pub received_there : (n : ℕ) (t : Tree) (p : ProtectedFields) (k : ℕ) → HasProtected n t p k → received_of p ≢ None
-received_there n t (protected o h) k w none = let e : Some w.0 ≡ None = sym w.2 ∙ none in cc
 
 shown_received : (p : ProtectedFields) (b : List ℕ) → received_of p ≡ Some b → shown p ≡ Some b
 shown_received (protected (Some x) h) b e = e

@@ -281,6 +281,3 @@ header_case n t k low = header_below n (suc (weight t)) t k (omega arith) low
 
 pub one_protected_case : (n : ℕ) (t : Tree) (k : ℕ) → Low t → ProtectedCase n t k
 one_protected_case n t k low = protected_case n (suc (weight t)) (λ u j l low'. header_case n u j low') k t (omega arith) low
-
-pub one_signature_case : (n : ℕ) (t : Tree) (k : ℕ) → Low t → SignatureCase n t k
-one_signature_case n t k low = signature_case n (suc (weight t)) (λ u j l low'. header_case n u j low') k t (omega arith) low

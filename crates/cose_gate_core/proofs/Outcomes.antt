@@ -1,5 +1,5 @@
 -- What is returned, from how far the gate has come.
-use Rattle.std.proofs.Common.{◌≡◌, ◌≢◌, ◌⊎◌, inl, inr, ℕ, ◌+◌, ◌^◌, ◌<◌, ◌≤◌, List, [], ◌∷◌, ◌++◌, length, map, Option, None, Some, Bool, true, false, not, cond, refl, sym, ap, subst, ◌∙◌, arith, append_assoc, append-nil, length-append}
+use Rattle.std.proofs.Common.{◌≡◌, ◌≢◌, ◌⊎◌, inl, inr, ℕ, ◌+◌, ◌^◌, ◌<◌, ◌≤◌, List, [], ◌∷◌, ◌++◌, length, map, Option, None, Some, Bool, true, false, not, cond, refl, sym, ap, subst, ◌∙◌, arith, append-nil, length-append}
 use Rattle.std.specs.Prelude.{Result, Ok, Err, IfOk}
 use Rattle.std.specs.Io.KnownBytes.{Consumes, Appends, Keeps}
 use Rattle.std.proofs.KnownBytes.{Appends-trans}
@@ -468,27 +468,6 @@ nothing_fails ends k p p' (de.Semantic o j) d m small = (let z : semantic j ≡ 
 nothing_fails ends k p p' de.RecursionLimitExceeded d m small = (let z : deep ≡ end = empty_damage (p + 0) k deep d in cc)
 nothing_fails ends k p p' de.Memory d m small = absurd m
 nothing_fails ends k p p' de.TooLong d m small = absurd (let l : 2 ^ 64 ≤ p + 0 + 4096 = d in omega arith)
-
--- what `IfEnd` says, if the fault is an end
-if_end : {E : Type 0} (ends : E → Bool) (P : Type 0) (e : Error E) → at_end ends e ≡ true → IfEnd ends P e → P
-if_end ends P (de.Io x) t f = f t
-if_end ends P (de.Syntax q) t f = cc
-if_end ends P (de.Semantic o j) t f = cc
-if_end ends P de.RecursionLimitExceeded t f = cc
-if_end ends P de.Memory t f = cc
-if_end ends P de.TooLong t f = cc
-
--- an end at once: no byte was left, and the reader tells so
-pub end_at_once : {E : Type 0} (ends : E → Bool) (k p p' : ℕ) (l l' : Option (List ℕ)) (e : Error E) → IfKnown l (λ b. FailsAt ends b p p' (λ stop b f. Damage stop b k f) e)
-    → at_end ends e ≡ true → p' ≡ p → (l ≡ Some [] → IfEnd ends (l' ≡ Some []) e) → IfKnown l (λ b. (b ≡ []) × (l' ≡ Some []))
-end_at_once ends k p p' None l' e d t s f = tt
-end_at_once ends k p p' (Some []) l' e d t s f = (refl, if_end ends (l' ≡ Some []) e t (f refl))
-end_at_once ends k p p' (Some (x ∷ xs)) l' (de.Io y) d t s f = let less : p < p' = (d t).1 in absurd (omega arith)
-end_at_once ends k p p' (Some (x ∷ xs)) l' (de.Syntax q) d t s f = cc
-end_at_once ends k p p' (Some (x ∷ xs)) l' (de.Semantic o j) d t s f = cc
-end_at_once ends k p p' (Some (x ∷ xs)) l' de.RecursionLimitExceeded d t s f = cc
-end_at_once ends k p p' (Some (x ∷ xs)) l' de.Memory d t s f = cc
-end_at_once ends k p p' (Some (x ∷ xs)) l' de.TooLong d t s f = cc
 
 -- an entry with this number and offset
 pub same_entry : (n m o p : ℕ) (v : Verdict) → n ≡ m → o ≡ p → (let e : Entry = record { number = n; offset = o; verdict = v } in e) ≡ entry_at m p v

@@ -58,14 +58,6 @@ alone false v k o e = refl
 pub added : (m n : Secrets) (k : KeyFields) (s : List ℕ) → Some s ≡ (if serves k then secret k else None) → Enters m k.key_id s n → Adds m k n
 added m n k s e h id = h id ∙ ap (λ z. option_or (secret_at m id) z) (alone (bytes_eq k.key_id id) (serves k) k (Some s) e)
 
-none_either : (b : Bool) → ◌≡◌ {A = Option (List ℕ)} None (if b then None else None)
-none_either true = refl
-none_either false = refl
-
-pub passed_over : (m : Secrets) (k : KeyFields) → None ≡ (if serves k then secret k else None) → Adds m k m
-passed_over m k e id = or_none (secret_at m id)
-    ∙ ap (λ z. option_or (secret_at m id) z) (none_either (bytes_eq k.key_id id) ∙ alone (bytes_eq k.key_id id) (serves k) k None e)
-
 third : (a b c d : Bool) → (a && (b && (c && d))) ≡ true → c ≡ true
 third a b true d e = refl
 third true true false d e = e

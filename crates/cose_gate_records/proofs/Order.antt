@@ -1,5 +1,5 @@
 -- How lists of bytes are ordered, piece by piece, and what a search by halves finds among them.
-use Rattle.std.proofs.Common.{◌≡◌, ℕ, ◌<◌, ◌≤◌, List, [], ◌∷◌, ◌++◌, length, Bool, true, false, Result, Ok, Err, Ordering, Less, Equal, Greater, nat_cmp, is_eq, Bor, get_or, refl, sym, ap, subst, ◌∙◌, ⊎_elim, arith, append_assoc, append-nil}
+use Rattle.std.proofs.Common.{◌≡◌, ℕ, ◌<◌, ◌≤◌, List, [], ◌∷◌, ◌++◌, length, true, false, Result, Ok, Err, Ordering, Less, Equal, Greater, nat_cmp, is_eq, Bor, get_or, refl, sym, ap, ◌∙◌, ⊎_elim, arith, append-nil}
 use Rattle.std.specs.Ordering.{is_ne, ordering_then}
 use Rattle.std.specs.Result.{is_ok}
 use Rattle.std.specs.List.{list_any}
@@ -13,7 +13,7 @@ use Rattle.std.proofs.lemmas.Cmp.{nat_list_cmp_total}
 use Rattle.std.proofs.lemmas.List.Folds.{list_any_at, list_any_none}
 use Rattle.std.proofs.lemmas.List.Sorted.{searchable_from_sorted, list_any-IsPermutation}
 use Rattle.std.proofs.Math.Logic.{∥∥₁_elim}
-use Rattle.cose_gate_records.specs.Framing.{eight, framed, key_by}
+use Rattle.cose_gate_records.specs.Framing.{framed, key_by}
 use Rattle.cose_gate_records.specs.Order.{bytes_cmp}
 
 then_assoc : (a b c : Ordering) → ordering_then a (ordering_then b c) ≡ ordering_then (ordering_then a b) c
@@ -49,34 +49,10 @@ by_heads (x ∷ xs) rest (y ∷ ys) more l h =
 abbrev pub TellsOf : List ℕ → Ordering → List ℕ → List ℕ → Type 0
 TellsOf text o rest front = (more : List ℕ) → bytes_cmp text (front ++ more) ≡ ordering_then o (bytes_cmp rest more)
 
--- against framed bytes their length tells, or they do
-pub tells_by_length : (text rest piece : List ℕ) (o : Ordering) → is_ne o ≡ true
-    → TellsOf text o rest (eight (length piece)) → TellsOf text o rest (framed piece)
-tells_by_length text rest piece o ne tells more =
-    ap (bytes_cmp text) (append_assoc (eight (length piece)) piece more)
-    ∙ (tells (piece ++ more) ∙ (decided o (bytes_cmp rest (piece ++ more)) ne ∙ sym (decided o (bytes_cmp rest more) ne)))
-
-pub tells_by_piece : (text rest last piece : List ℕ) (o p : Ordering) → is_ne o ≡ false
-    → TellsOf text o rest (eight (length piece)) → TellsOf rest p last piece → TellsOf text p last (framed piece)
-tells_by_piece text rest last piece o p eq tells then more =
-    ap (bytes_cmp text) (append_assoc (eight (length piece)) piece more)
-    ∙ (tells (piece ++ more) ∙ (tied o (bytes_cmp rest (piece ++ more)) eq ∙ then more))
-
--- a key against another: the front, the covered bytes and the signature tell in turn
-pub told_by_front : (key rest front covered signature : List ℕ) (o : Ordering) → is_ne o ≡ true → TellsOf key o rest front
-    → o ≡ bytes_cmp key (key_by front covered signature)
-told_by_front key rest front covered signature o ne tells =
-    sym (tells (framed covered ++ framed signature) ∙ decided o (bytes_cmp rest (framed covered ++ framed signature)) ne)
-
 behind_front : (key rest front covered signature : List ℕ) (o : Ordering) → is_ne o ≡ false → TellsOf key o rest front
     → bytes_cmp key (key_by front covered signature) ≡ bytes_cmp rest (framed covered ++ framed signature)
 behind_front key rest front covered signature o eq tells =
     tells (framed covered ++ framed signature) ∙ tied o (bytes_cmp rest (framed covered ++ framed signature)) eq
-
-pub told_by_covered : (key rest more front covered signature : List ℕ) (o p : Ordering) → is_ne o ≡ false → TellsOf key o rest front
-    → is_ne p ≡ true → TellsOf rest p more (framed covered) → p ≡ bytes_cmp key (key_by front covered signature)
-told_by_covered key rest more front covered signature o p eq tells ne then =
-    sym (behind_front key rest front covered signature o eq tells ∙ (then (framed signature) ∙ decided p (bytes_cmp more (framed signature)) ne))
 
 -- compared with an empty list, the length decides
 to_nothing : (text : List ℕ) → bytes_cmp text [] ≡ nat_cmp (length text) 0

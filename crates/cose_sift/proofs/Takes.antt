@@ -2,7 +2,6 @@
 use Rattle.std.proofs.Common.{◌≡◌, ◌≤◌, ◌+◌, ℕ, List, [], ◌∷◌, ◌++◌, length, take, drop, Bool, true, false, IsTrue, cond, get_or, Option, Some, None, refl, sym, ap, subst, ◌∙◌, append_assoc, append-nil, ◌^◌, inl, inr, length-append, length-drop, arith}
 use Rattle.std.proofs.lemmas.List.{take-append-drop, length-take-le}
 use Rattle.std.specs.Io.KnownBytes.{Consumes}
-use Rattle.std.proofs.KnownBytes.{Consumes-trans}
 use Rattle.ciborium_ll.specs.Device.{IsShort}
 use Rattle.ciborium_ll.specs.Reading.{Moves, Tells, Ends, IsBadByte, fault_failures}
 use Rattle.ciborium_ll.specs.Seen.{Seen, ReadTells}
@@ -54,13 +53,6 @@ short_first None n is short = tt
 short_first (Some []) n is short = refl
 short_first (Some (x ∷ xs)) n is short = absurd (omega arith)
 
-pub short_rest : (left mid : Option (List ℕ)) (d : List ℕ) (n : ℕ) → length d ≡ 1 → n ≤ bytes_after (get_or d 0 0) → Consumes left mid d → IsShort mid n → IfKnown left IsCut
-short_rest None mid d n one len c short = tt
-short_rest (Some b) None d n one len c short = absurd c
-short_rest (Some b) (Some r) (first ∷ []) n one len c short = subst IsCut (sym c) (omega arith)
-short_rest (Some b) (Some r) [] n one len c short = absurd (omega arith)
-short_rest (Some b) (Some r) (x ∷ y ∷ ys) n one len c short = absurd (omega arith)
-
 -- bytes of a string
 pub body_goes : (W : List ℕ → Type 0) (n m : ℕ) (x : List ℕ) → n ≡ length x + m → Goes (Then (Long n) W) (Then (Long m) W) x
 body_goes W n m x len = record { back = back; on = on }
@@ -75,11 +67,6 @@ body_goes W n m x len = record { back = back; on = on }
         let g = same_fronts (take (length x) a) x (drop (length x) a ++ (b ++ behind)) left (length-take-le (length x) a within) (sym (regroup a (take (length x) a) (drop (length x) a) (b ++ behind) parts) ∙ sym (regroup i a b behind e) ∙ f) in
         let whole : a ≡ x ++ drop (length x) a = parts ∙ ap (λ z. z ++ drop (length x) a) g.0 in
         record { rest = drop (length x) a ++ b; has = (drop (length x) a, b, omega (arith, length-drop (length x) a), w, refl); whole = e ∙ regroup a x (drop (length x) a) b whole }
-
--- fewer bytes are left than are due of a string
-pub body_short : (W : List ℕ → Type 0) (due n : ℕ) (left : Option (List ℕ)) → n ≤ due → IsShort left n → BeginsNone (Then (Long due) W) left
-body_short W due n None le short = tt
-body_short W due n (Some b) le short = λ i behind p e. let q : length p.0 + length (p.1 ++ behind) ≡ length b = sym (length-append p.0 (p.1 ++ behind)) ∙ ap length (sym (regroup i p.0 p.1 behind p.4) ∙ e) in let l : length p.0 ≡ due = p.2 in omega arith
 
 -- what is due in an item that begins with a head
 module _ (P : List ℕ → Type 0) (begins : (i : List ℕ) → P i → (h : Header) × (rest : List ℕ) × Begins i h rest) where
@@ -142,15 +129,6 @@ title_bad ends title new o o' (code.Io e) none len t all = absurd (no_cut title 
 title_bad ends title new o o' (code.Syntax p) none len t all = bad_first title new o o' t.1
 title_bad ends title new o o' code.TooLong none len t all = absurd (omega arith)
 title_bad ends title new o o' code.Waiting none len t all = absurd t
-
--- two reads are one
-pub moves_two : (l m n : Option (List ℕ)) (o p q : ℕ) (x y z : List ℕ) (P : List ℕ → Type 0) → Consumes l m x → Consumes m n y → p ≡ o + length x → q ≡ p + length y → z ≡ x ++ y → P z → Moves l n o q P
-moves_two l m n o p q x y z P c d e f is has = record {
-  bytes = z;
-  has = has;
-  taken = subst (Consumes l n) (sym is) (Consumes-trans l m n x y c d);
-  grown = omega (arith, e, f, ap length is, length-append x y);
-}
 
 -- a head that the walk took
 pub head_goes_on : (W V : List ℕ → Type 0) (body more : ℕ) (h : Header) (x : List ℕ) → body ≡ 0 → Title x h → ((title : List ℕ) → Title title h → Goes W (Then (Long more) V) title) → Goes (Then (Long body) W) (Then (Long more) V) x

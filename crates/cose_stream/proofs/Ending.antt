@@ -13,7 +13,7 @@ use Rattle.cose_gate.specs.GateFault.TheVariants as gating
 use Rattle.coset_labels.specs.Limits.{nesting, layers}
 use Rattle.cose_gate.specs.Questions.{Question}
 use Rattle.cose_gate.specs.Reading.{IfKnown}
-use Rattle.cose_gate.specs.Streaming.{CopiedBy, CopiedPart, Tells, IsLongFor, Unstreamed, UnstreamedBy, WritesAll, Why, fault_failures, damaged, untagged, tagged, shape, without_payload, without_length}
+use Rattle.cose_gate.specs.Streaming.{CopiedBy, CopiedPart, Tells, IsLongFor, Unstreamed, UnstreamedBy, WritesAll, Why, damaged, untagged, tagged, shape, without_payload, without_length}
 use Rattle.cose_gate.specs.Faults.{fault_of}
 use Rattle.cose_gate.specs.declared.fault.StreamFault.{StreamFault}
 use Rattle.cose_gate.specs.declared.fault.StreamFault.TheVariants as fault
@@ -21,7 +21,7 @@ use Rattle.cose_gate.proofs.Faults.{Names}
 use Rattle.cose_gate_program.specs.Faults.{is_end}
 use Rattle.ciborium.specs.declared.de.Error.{Error}
 use Rattle.cose_gate.specs.Damage.{end}
-use Rattle.cose_stream.specs.Streams.{Ended, IsAnswered, IsNoEnd, error_of, failures_after, input_fault, stopped_by}
+use Rattle.cose_stream.specs.Streams.{Ended, IsAnswered, IsNoEnd, error_of, input_fault, stopped_by}
 use Rattle.cose_stream.specs.declared.stop.StreamStop.{StreamStop}
 use Rattle.cose_stream.specs.declared.stop.StreamStop.TheVariants as stop
 
@@ -41,24 +41,6 @@ told_small ends D long (de.Semantic p k) t = t
 told_small ends D long de.RecursionLimitExceeded t = t
 told_small ends D long de.Memory t = t
 told_small ends D long de.TooLong t = t
-
-counts_so : (n : ℕ) (ended : Bool) → (if is_end (input_fault ended) then n else n + 1) ≡ (if ended then n else n + 1)
-counts_so n true = refl
-counts_so n false = refl
-
-pub same_failures : {E : Type 0} (ends : E → Bool) (f : StreamFault E) (n : ℕ) → failures_after (Err (stopped_by ends f)) n ≡ fault_failures ends f n
-same_failures ends (fault.Decode (de.Io x)) n = counts_so n (ends x)
-same_failures ends (fault.Decode (de.Syntax p)) n = refl
-same_failures ends (fault.Decode (de.Semantic p k)) n = refl
-same_failures ends (fault.Decode de.RecursionLimitExceeded) n = refl
-same_failures ends (fault.Decode de.Memory) n = refl
-same_failures ends (fault.Decode de.TooLong) n = refl
-same_failures ends fault.NotTagged n = refl
-same_failures ends (fault.OtherTag k) n = refl
-same_failures ends (fault.Shape k) n = refl
-same_failures ends fault.Detached n = refl
-same_failures ends fault.Unsized n = refl
-same_failures ends fault.Memory n = refl
 
 -- within the limits if none are chosen, of the whole input
 pub part_usually : {W F : Type 0} (w : Writing W F) (out out' : W) (levels layers' : ℕ) (from l : Option (List ℕ)) → levels ≡ nesting → layers' ≡ layers → from ≡ l

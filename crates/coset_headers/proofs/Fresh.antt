@@ -1,5 +1,5 @@
 -- Whether the label of an entry is new, by the fields that the entries before gave.
-use Rattle.std.proofs.Common.{◌≡◌, ℕ, pos, cond, inl, inr, ◌⊎◌, ⊎_elim, ◌+◌, ◌<◌, ◌≤◌, zero, suc, List, [], ◌∷◌, ◌++◌, length, map, Bool, true, false, Option, Some, None, refl, sym, ap, subst, ◌∙◌, arith, append_assoc, append-nil, length-append, take, take_all, get_or, is_some, not, is_eq}
+use Rattle.std.proofs.Common.{◌≡◌, ℕ, pos, cond, inl, inr, ◌⊎◌, ⊎_elim, ◌+◌, ◌<◌, ◌≤◌, zero, suc, List, [], ◌∷◌, ◌++◌, length, map, Bool, true, false, Option, Some, None, refl, sym, ap, subst, ◌∙◌, arith, append_assoc, length-append, take, take_all, get_or, is_some, not, is_eq}
 use Rattle.std.specs.Prelude.{MatchBool}
 use Rattle.coset_labels.specs.Orders.{label_cmp}
 use Rattle.coset_labels.specs.Facts.Orders.{labels_same}
@@ -116,17 +116,6 @@ in_both m (x ∷ xs) ys (inr p) = ⊎_elim (λ a. inl (inr a)) (λ b. inr b) (in
 in_back : (m : LabelFields) (xs ys : List (LabelFields × Tree)) → IsIn m ys → IsIn m (xs ++ ys)
 in_back m [] ys p = p
 in_back m (x ∷ xs) ys p = inr (in_back m xs ys p)
-
-more_none : (few more rest : List (LabelFields × Tree)) → rest ≡ few ++ more → length rest < 64 → (length few ≡ 64) ⊎ (more ≡ []) → more ≡ []
-more_none few more rest q h (inr e) = e
-more_none few more rest q h (inl e) = let a = ap length q in let b = length-append few more in absurd (omega (arith, a, b, e, h))
-
--- there are fewer than 64 labels without a field: none is in the set
-pub few_fresh : (s : SeenLabels Label) (rest : List (LabelFields × Tree)) (m : LabelFields) → SeesMany s rest → length rest < 64 → (v : Tree) → SeesMany s (rest ++ (m, v) ∷ [])
-few_fresh s rest m g h v =
-    let none = more_none g.few g.more rest g.are h g.full in
-    let l = length-append rest ((m, v) ∷ []) in
-    record { few = rest ++ (m, v) ∷ []; more = []; are = sym (append-nil (rest ++ (m, v) ∷ [])); at_most = omega (arith, l, h); full = inr refl; sees = subst (SeesLabels s) none g.sees }
 
 front_full : (few more rest : List (LabelFields × Tree)) → rest ≡ few ++ more → 64 ≤ length rest → length few ≤ 64 → (length few ≡ 64) ⊎ (more ≡ []) → length few ≡ 64
 front_full few more rest q h k (inl e) = e

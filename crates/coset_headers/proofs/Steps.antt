@@ -1,5 +1,5 @@
 -- What one step of the reader shows, over plain variables.
-use Rattle.std.proofs.Common.{◌≡◌, ◌≢◌, ℕ, ℤ, pos, cond, ◌-◌, ◌<◌, inl, inr, List, [], ◌∷◌, ◌++◌, Bool, true, false, Option, Some, None, refl, sym, ap, subst, ◌∙◌, map}
+use Rattle.std.proofs.Common.{◌≡◌, ◌≢◌, ℕ, ℤ, pos, cond, ◌-◌, ◌<◌, inl, inr, List, [], ◌∷◌, ◌++◌, Bool, true, false, Some, None, refl, sym, ap, subst, ◌∙◌, map}
 use Rattle.coset_headers.specs.declared.header.CoseSignature.{CoseSignature}
 use Rattle.coset_headers.specs.View.{signature_view, signatures_view}
 use Rattle.ciborium_value.specs.declared.value.Value.{Value}
@@ -7,7 +7,7 @@ use Rattle.std.proofs.lemmas.List.{map-append}
 use Rattle.ciborium_value.specs.Tree.{Tree, integer, bytes, text, array, map as map_tree, tag, simple, float, Trees, no_trees, one_more, is_bytes}
 use Rattle.ciborium_value.specs.View.{trees, view, views}
 use Rattle.ciborium.specs.Front.{Reads}
-use Rattle.coset_labels.specs.Fields.{LabelFields, number, Named, assigned, named}
+use Rattle.coset_labels.specs.Fields.{LabelFields, number, assigned, named}
 use Rattle.coset_labels.specs.Facts.Walks.{at_fault}
 pub use Rattle.coset_labels.specs.Facts.Walks.{passed_on, views_count}
 use Rattle.coset_labels.specs.Faults.{CoseFault, OrMemory, fault_of, unexpected}
@@ -20,14 +20,13 @@ use Rattle.coset_labels.specs.declared.error.CoseError.TheVariants as code
 use Rattle.coset_labels.specs.declared.label.Label.{Label}
 use Rattle.coset_labels.specs.declared.seen_labels.SeenLabels.{SeenLabels}
 use Rattle.coset_headers.specs.AsWritten.{is_bare}
-use Rattle.coset_headers.specs.Fields.{Plain, header, no_plain, no_header, SignatureFields, signatures, Signatures, no_signatures, signature_more}
+use Rattle.coset_headers.specs.Fields.{Plain, SignatureFields, signatures, Signatures, no_signatures, signature_more}
 use Rattle.coset_headers.specs.Headers.{is_at, at, IsIn, IsPlain, IsBare, IsList, list_of_three, HasSignature, HasSigned, HasSignatures}
 use Rattle.coset_headers.specs.Parts.{plain_of, signs_of, Sees, Known, Added, Filled, WrongFill, field_wrong, iv_second, partial_iv_second}
 use Rattle.coset_headers.specs.Walks.{WrongInside, is_unreadable, is_wrong}
 use Rattle.coset_headers.specs.Wrong.{WrongField, WrongHeader, no_map, WrongEntry, bad_label, bad_field, two_ivs, WrongSigned, no_list, no_first, NoSignature, WrongSignature, in_protected, in_unprotected, WrongProtected, no_string, too_deep, unreadable, inside}
 use Rattle.coset_headers.specs.declared.header.Header.{Header}
-use Rattle.coset_headers.proofs.Entered.{is_at_is, at_old, at_new, at_none, distinct_snoc, there, fields_of, plain_once, filled_plain, signed_plain, none_plain}
-use Rattle.coset_headers.proofs.Unique.{signed_once}
+use Rattle.coset_headers.proofs.Entered.{is_at_is, at_old, at_new, at_none, distinct_snoc, there, fields_of, filled_plain, signed_plain}
 
 -- ---- a header
 pub header_kind : (n : ℕ) (t : Tree) (k : ℕ) (e : CoseError) → (fault_of e ≡ unexpected) × (is_map t ≡ false) → OrMemory (WrongHeader n t k) e
@@ -81,9 +80,6 @@ known_signed n es l v seen old new k m ss w q d z s g a b =
             (subst (λ z. HasSigned n z (signs_of new) k) (sym (at_new 7 es m v s (at_none 7 es m s d))) (subst (λ z. HasSigned n (Some v) z k) (sym b) g));
       };
     }
-
-pub header_none : (n : ℕ) (p : Plain) (ss : Signatures) (k : ℕ) → Known n [] p ss k → header p ss ≡ no_header
-header_none n p ss k w = let a = plain_once [] p no_plain w.plain none_plain in let b = signed_once n ss no_signatures None k w.signed refl in λ i. header (a i) (b i)
 
 -- ---- counter signatures
 pub signed_kind : (n : ℕ) (t : Tree) (k : ℕ) (e : CoseError) → (fault_of e ≡ unexpected) × (is_array t ≡ false) → OrMemory (WrongSigned n t k) e
@@ -157,10 +153,6 @@ bytes_by (float f) e = cc
 pub bare_by : (ts : Trees) → is_bare ts ≡ true → IsBare ts
 bare_by no_trees e = cc
 bare_by (one_more t ts) e = let b = bytes_by t e in (b.0, ts, ap (λ z. one_more z ts) b.1)
-
--- ---- content types
-some_named : (o : Option Named) (b : List ℕ) → o ≡ Some (named b) → o ≡ None → ⊥
-some_named o b e f = let h : None ≡ Some (named b) = sym f ∙ e in cc
 
 number_no_text : (small registered : Bool) (i : ℤ) (b : List ℕ) → cond small (cond registered (Some (assigned i)) None) None ≡ Some (named b) → ⊥
 number_no_text true true i b e = let h : Some (assigned i) ≡ Some (named b) = e in let k : assigned i ≡ named b = cc in cc

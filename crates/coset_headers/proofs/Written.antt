@@ -100,18 +100,6 @@ signatures_fault all xs ys x e q (inr (d, n)) =
           ∙ ap (option_map trees) (ap (all_written signature_tree) (ap (map signature_view) q ∙ map-append signature_view xs (x ∷ ys)) ∙ written_none signature_tree (map signature_view xs) (map signature_view ys) (signature_view x) n),
     )
 
--- ---- parts that can't be written
-pub cant_and : {A B : Type 0} (f : A → Option B) (o : Option A) (e : CoseError) → CantWrite o e → CantWrite (option_and_then f o) e
-cant_and f o e (inl m) = inl m
-cant_and f o e (inr (d, n)) = inr (d, ap (option_and_then f) n)
-
-pub cant_map : {A B : Type 0} (f : A → B) (o : Option A) (e : CoseError) → CantWrite o e → CantWrite (option_map f o) e
-cant_map f o e (inl m) = inl m
-cant_map f o e (inr (d, n)) = inr (d, ap (option_map f) n)
-
-pub cant_by : {A : Type 0} (o p : Option A) (e : CoseError) → p ≡ o → CantWrite o e → CantWrite p e
-cant_by o p e q w = subst (λ z. CantWrite z e) (sym q) w
-
 -- ---- the steps of the test for repeats
 taken : (xs : List (Label × Value)) (i : ℕ) (d : Label × Value) → i < length xs → map entry_view (take (i + 1) xs) ≡ map entry_view (take i xs) ++ (label_view (get_or xs i d).0, view (get_or xs i d).1) ∷ []
 taken xs i d h = ap (map entry_view) (take_more xs i d h) ∙ map-append entry_view (take i xs) (get_or xs i d ∷ [])

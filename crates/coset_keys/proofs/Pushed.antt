@@ -19,10 +19,6 @@ pub one_pushed : (old new : List (Value × Value)) (k v : Value) (n : ℕ) (t : 
 one_pushed old new k v n t e q w =
     ap (map view_pair) e ∙ map-append view_pair old ((k, v) ∷ []) ∙ (λ i. map view_pair old ++ (q i, w i) ∷ [])
 
-pub type_pushed : (old new : List (Value × Value)) (k v : Value) (n : Named) → new ≡ old ++ (k, v) ∷ [] → view k ≡ integer (pos 1) → Some (named_tree n) ≡ Some (view v)
-    → map view_pair new ≡ map view_pair old ++ map entry_tree (name_entry 1 (Some n))
-type_pushed old new k v n e q w = let s : view v ≡ named_tree n = cc in one_pushed old new k v 1 (named_tree n) e q s
-
 pub ops_none : (xs : List (Tree × Tree)) (ns : List Named) → ns ≡ [] → xs ≡ xs ++ map entry_tree (ops_entry ns)
 ops_none xs ns e = sym (append-nil xs) ∙ ap (λ z. xs ++ map entry_tree (ops_entry z)) (sym e)
 
