@@ -14,8 +14,9 @@ use Rattle.ciborium.proofs.Excludes.{excludes}
 use Rattle.ciborium.proofs.ChildLemmas.{all_count}
 use Rattle.coset_labels.specs.Faults.{CoseFault, unexpected}
 use Rattle.cose_gate_core.specs.Questions.{MessageFields}
-use Rattle.cose_gate_core.specs.Findings.{Bounds, judged, barred, shape, IsBarred, IsJudged, within}
-use Rattle.cose_gate_core.proofs.Unique.{finding_once}
+use Rattle.cose_gate_core.specs.Findings.{Bounds, IsJudged, within}
+use Rattle.cose_gate_core.specs.Misshapen.{IsMisshapen}
+use Rattle.cose_gate_core.proofs.Unique.{no_message}
 use Rattle.cose_gate.specs.declared.fault.StreamFault.{StreamFault}
 use Rattle.cose_gate.specs.declared.fault.StreamFault.TheVariants as fault
 use Rattle.cose_gate.specs.Stated.{IsSingle, IsSingleTag, Stated, closing}
@@ -39,10 +40,10 @@ stated_third limits b front rest n h s e o =
     let none : o.third ≡ s.length_title ++ tail = behind_two f.reads.trees s.two o.third (s.length_title ++ tail) f.spelling s.headers f.reads.spells s.spells d s.are_two (sym f.whole ∙ c.rests) in
     (split_heads o.title.title s.length_title o.behind tail h (Bytes (Some n)) o.title.is_title s.is_length (sym o.title.whole ∙ none)).heads
 
--- an item of such a tag with a fault is barred
-shape_bars : (limits : Bounds) (b : List ℕ) (t : Tree) (e : CoseFault) → IsShapeFault limits b t e → IsBarred limits b t shape
-shape_bars limits b t e (inl m) = (e, m)
-shape_bars limits b t e (inr (ts, other, _)) =
+-- an item of such a tag with a fault has one as a message
+misshapen : (limits : Bounds) (b : List ℕ) (t : Tree) (e : CoseFault) → IsShapeFault limits b t e → (f : CoseFault) × IsMisshapen limits t f
+misshapen limits b t e (inl m) = (e, m)
+misshapen limits b t e (inr (ts, other, _)) =
     let f = form_by other.number other.is_single in
     (unexpected, shaped limits f.0 t (array ts) unexpected (other.is ∙ ap (λ z. tag z (array ts)) f.1) (not_four_items limits f.0 ts other.other))
 
@@ -59,7 +60,7 @@ module _ (levels layers : ℕ) {E : Type 0} (ends : E → Bool) (b : List ℕ) (
   due (fault.Decode de.TooLong) k = k
   due fault.NotTagged k = k.3 s.number (stated_first b front rest k.1 n k.0 s e k.2)
   due (fault.OtherTag i) k = k.2 (let h : Tag i ≡ Tag s.number = stated_first b front rest k.0 n (Tag i) s e k.1 in let w : s.number ≡ i = cc in subst IsSingleTag w s.is_single)
-  due (fault.Shape x) k = let h : judged m ≡ barred shape = finding_once (within levels layers false) b t (judged m) (barred shape) (j, λ s. (let no : false ≡ true = s in cc)) (shape_bars (within levels layers false) b t _ (k.1 t rest there)) in cc
+  due (fault.Shape x) k = let w = misshapen (within levels layers false) b t _ (k.1 t rest there) in absurd (no_message (within levels layers false) t w.0 w.1 m j.0)
   due fault.Detached (inl k) = let h : Simple 22 ≡ Bytes (Some n) = stated_third (within levels layers false) b front rest n (Simple 22) s e k in cc
   due fault.Detached (inr k) = let h : Simple 23 ≡ Bytes (Some n) = stated_third (within levels layers false) b front rest n (Simple 23) s e k in cc
   due fault.Unsized k = let h : Bytes None ≡ Bytes (Some n) = stated_third (within levels layers false) b front rest n (Bytes None) s e k in cc

@@ -66,21 +66,21 @@ module _ (l : Bounds) (allows : Question → Bool) (aad : List ℕ) where
       let both = one_more_counted (λ f. not (passes allows aad f)) s ss in
       both ∙ ap (λ z. z + refused_count allows aad ss) one ∙ ap (λ z. 0 + z) more
 
-  verdict_through : (t : Tree) (f : Finding) (v : Verdict) → IsVerdict l allows aad t f v → passes allows aad f ≡ true → v ≡ Passed
-  verdict_through t (judged m) v h e = h ∙ sym (passed_verdict (first_no allows (questions m aad)) e)
-  verdict_through t (barred r) v h e = let q : false ≡ true = e in cc
+  verdict_through : (f : Finding) (v : Verdict) → IsVerdict allows aad f v → passes allows aad f ≡ true → v ≡ Passed
+  verdict_through (judged m) v h e = h ∙ sym (passed_verdict (first_no allows (questions m aad)) e)
+  verdict_through (barred r) v h e = let q : false ≡ true = e in cc
 
   entries_through : (n : ℕ) (ss : List Step) → Steps l allows aad n ss → Through ss → All HasPassed (entries_of ss)
   entries_through n [] h t = All-nil HasPassed
   entries_through n (s ∷ ss) h t =
-      All-cons HasPassed s.entry (entries_of ss) (verdict_through s.item.value s.finding s.entry.verdict h.3 t.0) (entries_through (n + 1) ss h.4 t.1)
+      All-cons HasPassed s.entry (entries_of ss) (verdict_through s.finding s.entry.verdict h.3 t.0) (entries_through (n + 1) ss h.4 t.1)
 
-  noted_through : (ss : List Step) (es : List Entry) → Through ss → AreEntries l allows aad ss es → All HasPassed es
+  noted_through : (ss : List Step) (es : List Entry) → Through ss → AreEntries allows aad ss es → All HasPassed es
   noted_through [] [] t h = All-nil HasPassed
   noted_through [] (e ∷ es) t h = absurd h
   noted_through (s ∷ ss) [] t h = absurd h
   noted_through (s ∷ ss) (e ∷ es) t h =
-      All-cons HasPassed e es (verdict_through s.item.value s.finding e.verdict h.2 t.0) (noted_through ss es t.1 h.3)
+      All-cons HasPassed e es (verdict_through s.finding e.verdict h.2 t.0) (noted_through ss es t.1 h.3)
 
   -- ---- steps over the same items
   record Same (ss rs : List Step) : Type 0 where

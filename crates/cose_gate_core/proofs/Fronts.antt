@@ -16,8 +16,8 @@ use Rattle.cose_gate_core.specs.Anew.{bytes_of, entry_behind, SameVerdict, SameE
 use Rattle.cose_gate_core.proofs.Placed.{placed, placed_append, placed_asks, placed_writes, bytes_append, Stand, stand_entries, stand_same, IsStep, AllSteps, Told, all_append, all_split, run_told, run_again}
 
 -- one verdict stands for a finding, but for the fault of a shape
-module _ (limits : Bounds) (allows : Question → Bool) (aad : List ℕ) (t : Tree) where
-  verdict_once : (f : Finding) (v w : Verdict) → IsVerdict limits allows aad t f v → IsVerdict limits allows aad t f w → SameVerdict v w
+module _ (allows : Question → Bool) (aad : List ℕ) where
+  verdict_once : (f : Finding) (v w : Verdict) → IsVerdict allows aad f v → IsVerdict allows aad f w → SameVerdict v w
   verdict_once (judged m) v w a b = inl (a ∙ sym b)
   verdict_once (barred not_tagged) v w a b = inl (a ∙ sym b)
   verdict_once (barred encrypted) v w a b = inl (a ∙ sym b)
@@ -47,15 +47,14 @@ module _ (limits : Bounds) (allows : Question → Bool) (aad : List ℕ) where
     finding : s.finding ≡ r.finding
     verdict : SameVerdict s.entry.verdict r.entry.verdict
 
-  same_step : (s r : Step) → s.item.value ≡ r.item.value → Sound s → Sound r → Finds limits s.item.bytes s.item.value r.finding → Equal s r
-  same_step s r e a b g =
+  same_step : (s r : Step) → Sound s → Sound r → Finds limits s.item.bytes s.item.value r.finding → Equal s r
+  same_step s r a b g =
       let f = finding_once limits s.item.bytes s.item.value s.finding r.finding a.1 g in
-      let v : IsVerdict limits allows aad s.item.value s.finding r.entry.verdict =
-      subst (λ z. IsVerdict limits allows aad s.item.value z r.entry.verdict) (sym f) (subst (λ z. IsVerdict limits allows aad z r.finding r.entry.verdict) (sym e) b.2) in
-      record { finding = f; verdict = verdict_once limits allows aad s.item.value s.finding s.entry.verdict r.entry.verdict a.2 v }
+      let v : IsVerdict allows aad s.finding r.entry.verdict = subst (λ z. IsVerdict allows aad z r.entry.verdict) (sym f) b.2 in
+      record { finding = f; verdict = verdict_once allows aad s.finding s.entry.verdict r.entry.verdict a.2 v }
 
   one_step : (s r : Step) → s.item ≡ r.item → Sound s → Sound r → Equal s r
-  one_step s r e a b = same_step s r (ap (λ (z : Item). z.value) e) a b (subst (λ (z : Item). Finds limits z.bytes z.value r.finding) (sym e) b.1)
+  one_step s r e a b = same_step s r a b (subst (λ (z : Item). Finds limits z.bytes z.value r.finding) (sym e) b.1)
 
   -- if the gate isn't strict, what is found doesn't hang on the bytes
   found_of : limits.strict ≡ false → (b c : List ℕ) (t : Tree) (f : Finding) → Finds limits b t f → Finds limits c t f
@@ -70,7 +69,7 @@ module _ (limits : Bounds) (allows : Question → Bool) (aad : List ℕ) where
 
   one_value : limits.strict ≡ false → (s r : Step) → s.item.value ≡ r.item.value → Sound s → Sound r → Equal s r
   one_value i s r e a b =
-      same_step s r e a b (found_of i r.item.bytes s.item.bytes s.item.value r.finding (subst (λ z. Finds limits r.item.bytes z r.finding) (sym e) b.1))
+      same_step s r a b (found_of i r.item.bytes s.item.bytes s.item.value r.finding (subst (λ z. Finds limits r.item.bytes z r.finding) (sym e) b.1))
 
   alike_more : (s r : Step) (ss rs : List Step) → Equal s r → Alike ss rs → Alike (s ∷ ss) (r ∷ rs)
   alike_more s r ss rs e a =

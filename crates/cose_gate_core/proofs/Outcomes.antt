@@ -27,12 +27,14 @@ use Rattle.cose_gate_core.specs.Asked.{first_no, folded_over, IsFront}
 use Rattle.cose_gate_core.specs.Findings.{judged}
 use Rattle.cose_gate_core.specs.Run.{Step, Steps, judged_by, has_passed, passes, asked_of, text_of, written_of, questions_of, output_of, entries_of, passed_count, refused_count, Course}
 use Rattle.cose_gate_core.specs.Outcome.{Rules, GateState, IsFaultOf, IsNoReaderFault, IfTooLong}
+use Rattle.cose_gate_core.specs.Misshapen.{NamesShapes}
 use Rattle.cose_gate_core.specs.Next.{Made, Reached, IsReadFault}
 use Rattle.cose_gate_core.specs.GateRun.{asking, writing, noting, Ending, finished, unflushed, unreadable, no_memory, within, at_hand, taken_at, asked_at, written_at, result_of, IfOfBytes, EndsAt, FaultAt, Leaves, Ran}
 use Rattle.cose_gate_core.specs.Passing.{ItemRules, ItemSight, WentThrough, Half, HalfWritten, ItemFails, at_end, stopped_by}
 use Rattle.coset_labels.specs.Limits.{nesting_of}
 use Rattle.cose_gate_core.specs.Terms.{IsTaken}
 use Rattle.cose_gate_core.specs.declared.terms.Terms.{Terms}
+use Rattle.cose_gate_core.proofs.Items.{answers_name}
 use Rattle.cose_gate_core.proofs.Nothing.{empty_damage}
 use Rattle.cose_gate_core.proofs.Reach.{reads_some, further, step_at, entry_at, told_then, questions_then, output_then, entries_then, verdict_passes, count_then, folded_append, sequence_more}
 
@@ -183,8 +185,8 @@ module _ {T S E : Type 0} (ends : E → Bool) (live : Bool) (by : Rules T S) (ol
       → (input : List ℕ) → IfKnown old.left (λ b. b ≡ input) → Course by.limits by.allows by.aad old.offset input done more → more ≡ taken_at g ++ rest
       → EndsAt ends live by.limits by.allows by.aad old.left done rest g → Leaves g old.left new.left rest → Made by old new done
       → new.offset + length rest ≡ old.offset + length input
-      → r ≡ result_of by.allows by.aad (record { done = done; ending = g; rest = rest }) → FaultAt ends by.limits old.offset old.left rest g → Ran ends live by old new r
-  between r done g more rest hand asked written input is course whole ends_at left made stands same fault = record {
+      → r ≡ result_of by.allows by.aad (record { done = done; ending = g; rest = rest }) → FaultAt ends by.limits old.offset old.left rest g → NamesShapes by.limits done → Ran ends live by old new r
+  between r done g more rest hand asked written input is course whole ends_at left made stands same fault shapes = record {
     input = input;
     is = is;
     run = record { done = done; ending = g; rest = rest };
@@ -198,6 +200,7 @@ module _ {T S E : Type 0} (ends : E → Bool) (live : Bool) (by : Rules T S) (ol
     stands = stands;
     left = left;
     fault = fault;
+    shapes = subst (λ (ss : List Step). NamesShapes by.limits ss) (sym (ap (λ z. done ++ z) hand ∙ append-nil done)) shapes;
   }
 
 -- a flush adds nothing
@@ -238,12 +241,13 @@ module _ {T S : Type 0} (rules : Rules T S) where
   unfolding step_at
   reached_step old new newer passed refused passed' refused' r v t verdict k e same state more less =
       let s = step_at new.offset t.bytes v k.finding (entry_at (passed + refused + 1) new.offset verdict) in
-      let w = further rules old new newer passed refused r v t k.finding verdict k.finds k.verdict in
-      let q = verdict_passes rules.limits rules.allows rules.aad v k.finding verdict k.verdict in
+      let w = further rules old new newer passed refused r v t k.finding verdict k.finds k.verdict k.shape in
+      let q = verdict_passes rules.limits rules.allows rules.aad k.finding verdict k.verdict in
       record {
         done = r.done ++ s ∷ [];
         taken = w.taken;
         steps = w.steps;
+        shapes = w.shapes;
         made = record {
           told = told_then rules old.told new.told newer.told r.done s r.made.told k.tells;
           state = state ∙ ap (λ z. rules.folded z e) r.made.state ∙ ap (rules.folded (folded_over rules.folded old.state (entries_of r.done))) same
@@ -289,7 +293,7 @@ module _ {T S : Type 0} (rules : Rules T S) where
       let s : new.offset + 0 ≡ old.offset + length w.input = w.stop in
       between ends live rules old newer (Ok counts) r.done finished [] [] refl refl refl w.input w.is w.course refl refl
       (nothing_behind old.left new.left newer.left r.taken.bytes r.taken.taken none) (still old new newer r.done told state writes r.made) (omega arith)
-      (ap Ok (counted counts (passed_count rules.allows rules.aad r.done) (refused_count rules.allows rules.aad r.done) r.passed_is r.refused_is)) tt
+      (ap Ok (counted counts (passed_count rules.allows rules.aad r.done) (refused_count rules.allows rules.aad r.done) r.passed_is r.refused_is)) tt r.shapes
 
   -- what was to come after the steps, and how much of it was taken
   rest_stands : (old new newer : GateState T S) (P : Type 0) (input : List ℕ) (k : Partly new.left newer.left new.offset newer.offset P) → new.offset + length k.more ≡ old.offset + length input
@@ -310,7 +314,7 @@ module _ {T S : Type 0} (rules : Rules T S) where
       between ends live rules old newer (Err Memory) r.done (no_memory k.taken) k.more k.rest refl refl refl w.input w.is w.course k.whole
       (known _ _ old.left (λ b left none. left (k.whole ∙ none)) (something_left old.left new.left r.taken.bytes k.more r.taken.taken k.is some), one t.bytes t.has)
       (known_before (newer.left ≡ Some k.rest) old.left new.left r.taken.bytes r.taken.taken (k.behind tt))
-      (still old new newer r.done told state writes r.made) (rest_stands old new newer (Unit {0}) w.input k w.stop) refl tt
+      (still old new newer r.done told state writes r.made) (rest_stands old new newer (Unit {0}) w.input k w.stop) refl tt r.shapes
 
   -- the fault of the bytes, or Memory of the reader
   pub answer_read : {E : Type 0} (ends : E → Bool) (live : Bool) (old new newer : GateState T S) (passed refused : ℕ) → Reached rules old new passed refused
@@ -328,7 +332,7 @@ module _ {T S : Type 0} (rules : Rules T S) where
         end_behind ends (new.offset < newer.offset) (k.taken ≢ []) old.left new.left r.taken.bytes e r.taken.taken (λ less none. (let l : length k.taken ≡ 0 = ap length none in let g = k.grown in omega arith)) d.2,
       )
       (λ is. known_before (newer.left ≡ Some k.rest) old.left new.left r.taken.bytes r.taken.taken (k.behind is))
-      (still old new newer r.done told state writes r.made) (rest_stands old new newer (IsNoReaderFault e) w.input k w.stop) refl fault
+      (still old new newer r.done told state writes r.made) (rest_stands old new newer (IsNoReaderFault e) w.input k w.stop) refl fault r.shapes
   answer_read ends live old new newer passed refused r told state writes Write d some = absurd d
   answer_read ends live old new newer passed refused r told state writes Memory d some = memory_between ends live old new newer passed refused r told state writes (λ none. some none refl) HoldsOne (λ b one. one) d
 
@@ -339,7 +343,7 @@ module _ {T S : Type 0} (rules : Rules T S) where
   unfolding judged_step step_at
   memory_asking ends live old new newer passed refused r v t h state writes =
       let s = judged_step (passed + refused + 1) new.offset t.bytes v h.message in
-      let f = further rules old new newer passed refused r v t (judged h.message) (judged_by (first_no rules.allows (questions h.message rules.aad))) h.is refl in
+      let f = further rules old new newer passed refused r v t (judged h.message) (judged_by (first_no rules.allows (questions h.message rules.aad))) h.is refl (answers_name rules.limits v (first_no rules.allows (questions h.message rules.aad))) in
       let w = left_after old newer (r.done ++ s ∷ []) f.taken f.steps (rest_of newer.left) (rest_known newer.left) in
       record {
         input = w.input;
@@ -356,6 +360,7 @@ module _ {T S : Type 0} (rules : Rules T S) where
         stands = w.stop;
         left = w.behind;
         fault = tt;
+        shapes = f.shapes;
       }
 
   -- Write, in the encoding of one more message
@@ -365,7 +370,7 @@ module _ {T S : Type 0} (rules : Rules T S) where
   unfolding judged_step step_at
   write_within ends live old new newer passed refused r v t h state =
       let s = judged_step (passed + refused + 1) new.offset t.bytes v h.message in
-      let f = further rules old new newer passed refused r v t (judged h.message) (judged_by (first_no rules.allows (questions h.message rules.aad))) h.is refl in
+      let f = further rules old new newer passed refused r v t (judged h.message) (judged_by (first_no rules.allows (questions h.message rules.aad))) h.is refl (answers_name rules.limits v (first_no rules.allows (questions h.message rules.aad))) in
       let w = left_after old newer (r.done ++ s ∷ []) f.taken f.steps (rest_of newer.left) (rest_known newer.left) in
       record {
         input = w.input;
@@ -381,6 +386,7 @@ module _ {T S : Type 0} (rules : Rules T S) where
         stands = w.stop;
         left = w.behind;
         fault = tt;
+        shapes = f.shapes;
       }
 
   -- the item failed
@@ -400,7 +406,7 @@ module _ {T S : Type 0} (rules : Rules T S) where
   unfolding step_at
   answer_noting ends live old new newer passed refused r v t verdict k state =
       let s = step_at new.offset t.bytes v k.finding (entry_at (passed + refused + 1) new.offset verdict) in
-      let f = further rules old new newer passed refused r v t k.finding verdict k.finds k.verdict in
+      let f = further rules old new newer passed refused r v t k.finding verdict k.finds k.verdict k.shape in
       let w = left_after old newer (r.done ++ s ∷ []) f.taken f.steps (rest_of newer.left) (rest_known newer.left) in
       record {
         input = w.input;
@@ -416,6 +422,7 @@ module _ {T S : Type 0} (rules : Rules T S) where
         stands = w.stop;
         left = w.behind;
         fault = tt;
+        shapes = f.shapes;
       }
 
   -- a step was made, if so many were counted
@@ -431,7 +438,7 @@ module _ {T S : Type 0} (rules : Rules T S) where
   answer_unflushed ends live old new passed refused is some r =
       let w = left_after old new r.done r.taken r.steps (rest_of new.left) (rest_known new.left) in
       between ends live rules old new (Err Write) r.done unflushed (rest_of new.left) (rest_of new.left) refl refl refl w.input w.is w.course refl (is, some_done old new passed refused r some)
-      (rest_told old.left new.left r.taken.bytes r.taken.taken) r.made w.stop refl tt
+      (rest_told old.left new.left r.taken.bytes r.taken.taken) r.made w.stop refl tt r.shapes
 
   -- steps that were made stay made if the output is flushed, and the report stays as it was
   pub reached_flushed : (old new newer : GateState T S) (passed refused : ℕ) → Reached rules old new passed refused → newer.told ≡ new.told → newer.state ≡ new.state
@@ -445,6 +452,7 @@ module _ {T S : Type 0} (rules : Rules T S) where
       grown = offset ∙ r.taken.grown;
     };
     steps = r.steps;
+    shapes = r.shapes;
     made = record {
       told = told ∙ r.made.told;
       state = state ∙ r.made.state;

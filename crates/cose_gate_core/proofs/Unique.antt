@@ -8,7 +8,8 @@ use Rattle.coset_signed.proofs.Excludes.{sign1_not, sign_not}
 use Rattle.coset_signed.proofs.Unique.{sign1_once, sign_once}
 use Rattle.coset_maced.proofs.Unique.{mac0_once, mac0_not, mac_once, mac_not}
 use Rattle.cose_gate_core.specs.Questions.{Question, MessageFields, sign1, mac0, sign, mac, number_of, kind_of, tag_of, payload_of, message_text}
-use Rattle.cose_gate_core.specs.Findings.{Finding, judged, barred, not_tagged, encrypted, other_tag, shape, detached, no_signature, not_shortest, Finds, IsMessageTag, IsEncryptedTag, Bounds, HasMessage, WrongMessage, IsMessage, IsCarried, IsUnsigned}
+use Rattle.cose_gate_core.specs.Findings.{Finding, judged, barred, not_tagged, encrypted, other_tag, shape, detached, no_signature, not_shortest, Finds, IsMessageTag, IsEncryptedTag, Bounds, HasMessage, IsMessage, IsCarried, IsUnsigned}
+use Rattle.cose_gate_core.specs.Misshapen.{WrongMessage, IsMisshapen}
 use Rattle.cose_gate_core.specs.declared.about.MessageKind.{MessageKind}
 use Rattle.cose_gate_core.specs.Run.{Step, Steps, Run, asked_of, written_of, questions_of, output_of}
 use Rattle.cose_gate_core.proofs.TagNumbers.{same_kind, not_both}
@@ -39,7 +40,7 @@ in_group l b t (judged m) (((u, e, h), p, s), x) = (tag_of m, u, e, (kind_of m, 
 in_group l b t (barred not_tagged) h = h
 in_group l b t (barred encrypted) h = h
 in_group l b t (barred (other_tag n)) h = h
-in_group l b t (barred shape) (f, (k, u, e, w)) = (number_of k, u, e, (k, refl))
+in_group l b t (barred shape) h = h.0
 in_group l b t (barred detached) (m, (u, e, h), p) = (tag_of m, u, e, (kind_of m, refl))
 in_group l b t (barred no_signature) (m, (u, e, h), p, s) = (tag_of m, u, e, (kind_of m, refl))
 in_group l b t (barred not_shortest) (m, ((u, e, h), p, s), x) = (tag_of m, u, e, (kind_of m, refl))
@@ -148,14 +149,14 @@ of_message_once l b m _ _ (good c u s) (good d v t) = refl
 -- what is found under the tag of a message
 data Body (l : Bounds) (b : List ℕ) (t : Tree) (f : Finding) : Type 0 where
   fits : (m : MessageFields) → IsMessage l t m → OfMessage l b m f → Body l b t f
-  wrong : (k : MessageKind) (u : Tree) (e : CoseFault) → t ≡ tag (number_of k) u → WrongMessage l k u e → f ≡ barred shape → Body l b t f
+  wrong : ((m : MessageFields) → IsMessage l t m → ⊥) → f ≡ barred shape → Body l b t f
 
 body : (l : Bounds) (b : List ℕ) (t : Tree) (f : Finding) → Finds l b t f → group f ≡ message → Body l b t f
 body l b t (judged m) ((i, c, u), s) g = fits m i (good c u s)
 body l b t (barred not_tagged) h g = cc
 body l b t (barred encrypted) h g = cc
 body l b t (barred (other_tag n)) h g = cc
-body l b t (barred shape) (f, (k, u, e, w)) g = wrong k u f e w refl
+body l b t (barred shape) h g = wrong h.1 refl
 body l b t (barred detached) (m, i, e) g = fits m i (out e)
 body l b t (barred no_signature) (m, i, c, u) g = fits m i (bare c u)
 body l b t (barred not_shortest) (m, (i, c, u), s, n) g = fits m i (long c u s n)
@@ -166,16 +167,16 @@ module _ (l : Bounds) (t : Tree) where
       let kinds : kind_of a ≡ kind_of b = same_kind (kind_of a) (kind_of b) (same_tag t (tag_of a) (tag_of b) u v p q) in
       same_message l u a b kinds h (subst (λ z. HasMessage l z b) (sym (same_body t (tag_of a) (tag_of b) u v p q)) g)
 
-  no_wrong : (m : MessageFields) (k : MessageKind) (v : Tree) (e : CoseFault) → IsMessage l t m → t ≡ tag (number_of k) v → WrongMessage l k v e → ⊥
-  no_wrong m k v e (u, p, h) q w =
+  pub no_message : (e : CoseFault) → IsMisshapen l t e → (m : MessageFields) → IsMessage l t m → ⊥
+  no_message e (k, v, q, w) m (u, p, h) =
       let kinds : k ≡ kind_of m = same_kind k (kind_of m) (same_tag t (number_of k) (tag_of m) v u q p) in
       no_fault l v m e (subst (λ z. HasMessage l z m) (same_body t (tag_of m) (number_of k) u v p q) h) (subst (λ j. WrongMessage l j v e) kinds w)
 
 body_once : (l : Bounds) (b : List ℕ) (t : Tree) (f g : Finding) → Body l b t f → Body l b t g → f ≡ g
 body_once l b t f g (fits m i c) (fits n k d) = of_message_once l b m f g c (subst (λ (z : MessageFields). OfMessage l b z g) (sym (same_fields l t m n i k)) d)
-body_once l b t f g (fits m i c) (wrong k v e q w d) = absurd (no_wrong l t m k v e i q w)
-body_once l b t f g (wrong k v e q w c) (fits m i d) = absurd (no_wrong l t m k v e i q w)
-body_once l b t f g (wrong k u e q w c) (wrong j v x p y d) = c ∙ sym d
+body_once l b t f g (fits m i c) (wrong none d) = absurd (none m i)
+body_once l b t f g (wrong none c) (fits m i d) = absurd (none m i)
+body_once l b t f g (wrong none c) (wrong no d) = c ∙ sym d
 
 pub finding_once : (l : Bounds) (b : List ℕ) (t : Tree) (f g : Finding) → Finds l b t f → Finds l b t g → f ≡ g
 finding_once l b t f g h k = by_group (is_message (group f))

@@ -2,15 +2,11 @@
 -- (RFC 9052, section 2, has the tags).
 use Rattle.std.specs.Prelude.{◌≡◌, ◌≢◌, ℕ, ◌⊎◌, List, [], Some, None, Bool, true, false}
 use Rattle.ciborium_value.specs.Tree.{Tree, tag}
-use Rattle.coset_labels.specs.Faults.{CoseFault}
 use Rattle.coset_labels.specs.Limits.{nesting as usual_nesting, layers as usual_layers}
 use Rattle.coset_signed.specs.Shapes.{HasSign1, HasSign}
-use Rattle.coset_signed.specs.Wrong.{WrongSign1, WrongSign}
 use Rattle.coset_maced.specs.Shapes.{HasMac0, HasMac}
-use Rattle.coset_maced.specs.Wrong.{WrongMac0, WrongMac}
 use Rattle.cose_gate_core.specs.Questions.{MessageFields, sign1, mac0, sign, mac, number_of, tag_of, payload_of, message_text}
 use Rattle.cose_gate_core.specs.declared.about.MessageKind.{MessageKind}
-use Rattle.cose_gate_core.specs.declared.about.MessageKind.TheVariants as kind
 
 -- why an item is not judged
 pub data Reason : Type 0 where
@@ -56,13 +52,6 @@ HasMessage limits u (mac0 m) = HasMac0 limits.nesting u m limits.layers
 HasMessage limits u (sign m) = HasSign limits.nesting u m limits.layers
 HasMessage limits u (mac m) = HasMac limits.nesting u m limits.layers
 
--- which fault a value has as a message of a kind
-abbrev pub WrongMessage : Bounds → MessageKind → Tree → CoseFault → Type 0
-WrongMessage limits kind.Sign1 u f = WrongSign1 limits.nesting u limits.layers f
-WrongMessage limits kind.Mac0 u f = WrongMac0 limits.nesting u limits.layers f
-WrongMessage limits kind.Sign u f = WrongSign limits.nesting u limits.layers f
-WrongMessage limits kind.Mac u f = WrongMac limits.nesting u limits.layers f
-
 -- a tagged message
 abbrev pub IsMessage : Bounds → Tree → MessageFields → Type 0
 IsMessage limits t m = (u : Tree) × (t ≡ tag (tag_of m) u) × HasMessage limits u m
@@ -82,18 +71,14 @@ IsUnsigned (mac m) = ⊥
 abbrev pub IsJudged : Bounds → Tree → MessageFields → Type 0
 IsJudged limits t m = IsMessage limits t m × IsCarried m × (IsUnsigned m → ⊥)
 
--- a value under the tag of a message that has this fault as one
-abbrev pub IsMisshapen : Bounds → Tree → CoseFault → Type 0
-IsMisshapen limits t f =
-    (k : MessageKind) × (u : Tree) × (t ≡ tag (number_of k) u) × WrongMessage limits k u f
-
 -- an item of these bytes and the value t isn't judged, for this reason
 abbrev pub IsBarred : Bounds → List ℕ → Tree → Reason → Type 0
 IsBarred limits b t not_tagged = (n : ℕ) (u : Tree) → t ≢ tag n u
 IsBarred limits b t encrypted = (n : ℕ) × (u : Tree) × (t ≡ tag n u) × IsEncryptedTag n
 IsBarred limits b t (other_tag n) =
     (u : Tree) × (t ≡ tag n u) × (IsEncryptedTag n → ⊥) × (IsMessageTag n → ⊥)
-IsBarred limits b t shape = (f : CoseFault) × IsMisshapen limits t f
+IsBarred limits b t shape = ((n : ℕ) × (u : Tree) × (t ≡ tag n u) × IsMessageTag n)
+    × ((m : MessageFields) → IsMessage limits t m → ⊥)
 IsBarred limits b t detached = (m : MessageFields) × IsMessage limits t m × (payload_of m ≡ None)
 IsBarred limits b t no_signature =
     (m : MessageFields) × IsMessage limits t m × IsCarried m × IsUnsigned m

@@ -22,7 +22,7 @@ pub record FixedPoint (limits : Bounds) (allows : Question → Bool) (aad : List
   pub rest : more ≡ []
   pub output : output_of allows aad again ≡ output_of allows aad ss
   pub entries : All (λ e. e.verdict ≡ Passed) (entries_of again)
-  pub noted : (es : List Entry) → AreEntries limits allows aad again es
+  pub noted : (es : List Entry) → AreEntries allows aad again es
       → All (λ e. e.verdict ≡ Passed) es
   pub passed : passed_count allows aad again ≡ passed_count allows aad ss
   pub refused : refused_count allows aad again ≡ 0

@@ -10,6 +10,7 @@ use Rattle.ciborium.specs.declared.de.Error.TheVariants as de
 use Rattle.cose_gate_core.specs.Questions.{Question}
 use Rattle.cose_gate_core.specs.Asked.{IsFront, folded_over}
 use Rattle.cose_gate_core.specs.Findings.{Bounds}
+use Rattle.cose_gate_core.specs.Misshapen.{NamesShapes}
 use Rattle.cose_gate_core.specs.Outcome.{Rules, GateState, IsFaultOf, IsNoReaderFault}
 use Rattle.cose_gate_core.specs.Run.{Step, Course, asked_of, questions_of, passes, text_of, written_of, output_of, entries_of, passed_count, refused_count}
 use Rattle.cose_gate_core.specs.declared.gating.Counts.{Counts}
@@ -140,3 +141,4 @@ pub record Ran {T S E : Type 0} (ends : E → Bool) (live : Bool) (rules : Rules
   pub stands : new.offset + length run.rest ≡ old.offset + length input
   pub left : Leaves run.ending old.left new.left run.rest
   pub fault : FaultAt ends rules.limits old.offset old.left run.rest run.ending
+  pub shapes : NamesShapes rules.limits (run.done ++ at_hand run.ending)

@@ -5,6 +5,7 @@ pub mod Findings
 pub mod Fixed
 pub mod GateRun
 pub mod Lent
+pub mod Misshapen
 pub mod Narrow
 pub mod Next
 pub mod Outcome

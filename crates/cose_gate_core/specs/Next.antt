@@ -9,6 +9,7 @@ use Rattle.ciborium.specs.Items.{SequenceWithin}
 use Rattle.ciborium.specs.Reading.{IfKnown, IfEnd, IsNoMemory, SomeTaken}
 use Rattle.cose_gate_core.specs.Asked.{folded_over}
 use Rattle.cose_gate_core.specs.GateRun.{Ran}
+use Rattle.cose_gate_core.specs.Misshapen.{NamesShapes}
 use Rattle.cose_gate_core.specs.Outcome.{Rules, GateState, IsFaultOf}
 use Rattle.cose_gate_core.specs.Terms.{IsTaken}
 use Rattle.cose_gate_core.specs.Run.{Step, Steps, questions_of, output_of, entries_of, passed_count, refused_count}
@@ -32,6 +33,7 @@ pub record Reached {T S : Type 0} (rules : Rules T S) (old new : GateState T S)
   pub taken : Moves old.left new.left old.offset new.offset
       (λ b. SequenceWithin rules.limits.nesting old.offset b (map (λ s. s.item) done) [])
   pub steps : Steps rules.limits rules.allows rules.aad 1 done
+  pub shapes : NamesShapes rules.limits done
   pub made : Made rules old new done
   pub passed_is : passed ≡ passed_count rules.allows rules.aad done
   pub refused_is : refused ≡ refused_count rules.allows rules.aad done

@@ -8,7 +8,8 @@ use Rattle.ciborium.specs.declared.de.Error.{Error}
 use Rattle.ciborium.specs.declared.de.Error.TheVariants as de
 use Rattle.cose_gate_core.specs.Questions.{Question, MessageFields, message_text}
 use Rattle.cose_gate_core.specs.Asked.{folded_over, IsFront, ToldPart}
-use Rattle.cose_gate_core.specs.Findings.{not_tagged, encrypted, other_tag, detached, no_signature, not_shortest, Finding, judged, Bounds, IsBarred, IsMisshapen, Finds}
+use Rattle.cose_gate_core.specs.Findings.{not_tagged, encrypted, other_tag, detached, no_signature, not_shortest, Finding, judged, Bounds, IsBarred, Finds}
+use Rattle.cose_gate_core.specs.Misshapen.{IsMisshapen, NamesShape}
 use Rattle.cose_gate_core.specs.Run.{IsVerdict, asked_of, passes, written_of}
 use Rattle.cose_gate_core.specs.declared.report.Refusal.{Refusal}
 use Rattle.cose_gate_core.specs.declared.report.Refusal.TheVariants as refusal
@@ -52,7 +53,8 @@ pub record WentThrough {T : Type 0} (rules : ItemRules T) (bytes : List ℕ) (t 
     (old new : ItemSight T) (v : Verdict) : Type 0 where
   pub finding : Finding
   pub finds : Finds rules.limits bytes t finding
-  pub verdict : IsVerdict rules.limits rules.allows rules.aad t finding v
+  pub verdict : IsVerdict rules.allows rules.aad finding v
+  pub shape : NamesShape rules.limits t v
   pub tells : new.told ≡ folded_over rules.decided old.told (asked_of rules.allows rules.aad finding)
   pub writes : Appends old.written new.written (written_of rules.allows rules.aad finding)
 

@@ -60,6 +60,7 @@ gated by old new n n' f f' r before after Asked Told start first last a reads wr
             course = subst (λ (k : ℕ). Course by.limits by.allows by.aad k a.input (run.done ++ at_hand run.ending) (taken_at run.ending ++ run.rest)) start a.course;
             ends = a.ends_at;
             fault = subst (λ (k : ℕ). FaultAt is_end by.limits k old.left run.rest run.ending) start a.fault;
+            shapes = a.shapes;
             left = a.left;
             written = a.written;
             reads = reads ∙ ap (λ z. n + reader_failures is_end z) a.returned;
@@ -88,6 +89,7 @@ then_flushed answer limits allows aad old mid new run s left kept reads failed =
   course = s.course;
   ends = s.ends;
   fault = s.fault;
+  shapes = s.shapes;
   left = subst (λ (l : Option (List ℕ)). Leaves run.ending old.left l run.rest) (sym left) s.left;
   written = flushed old.written mid.written new.written (written_in allows aad run) kept s.written;
   reads = reads ∙ s.reads;

@@ -8,6 +8,7 @@ use Rattle.cose_gate_core.specs.Questions.{Question}
 use Rattle.cose_gate_core.specs.Asked.{folded_over}
 use Rattle.cose_gate_core.specs.Findings.{Bounds}
 use Rattle.cose_gate_core.specs.GateRun.{GateRun, at_hand, taken_at, written_in, result_of, EndsAt, FaultAt, Leaves}
+use Rattle.cose_gate_core.specs.Misshapen.{NamesShapes}
 use Rattle.cose_gate_core.specs.Outcome.{reader_failures, writer_failures}
 use Rattle.cose_gate_core.specs.Run.{Course}
 use Rattle.cose_gate_core.specs.declared.judge.Judge.{Ghosts as Judges}
@@ -46,6 +47,7 @@ pub record Shows (limits : Bounds) (allows : Question → Bool) (aad : List ℕ)
       (taken_at run.ending ++ run.rest)
   pub ends : EndsAt is_end true limits allows aad old.left run.done run.rest run.ending
   pub fault : FaultAt is_end limits 0 old.left run.rest run.ending
+  pub shapes : NamesShapes limits (run.done ++ at_hand run.ending)
   pub left : Leaves run.ending old.left new.left run.rest
   pub written : Appends old.written new.written (written_in allows aad run)
   pub reads : new.read_failures
