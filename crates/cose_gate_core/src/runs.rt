@@ -3,31 +3,30 @@ ghost use Rattle.std.specs.Prelude.{◌≡◌, ◌≢◌, ◌+◌, ◌<◌, ◌^
 ghost use Rattle.std.specs.Prelude.{Bool, false, Some, Result, Err, IsOk};
 ghost use Rattle.cose_gate_core.specs.Questions.{Question};
 ghost use Rattle.cose_gate_core.specs.Findings.{Bounds};
-ghost use Rattle.cose_gate_core.specs.GateRun.{Ran, at_hand};
-ghost use Rattle.cose_gate_core.specs.Next.{Made};
+ghost use Rattle.cose_gate_core.specs.GateRun.{Ran};
 ghost use Rattle.cose_gate_core.specs.Outcome.{Rules, GateState, reader_failures};
 ghost use Rattle.cose_gate_core.specs.Run.{Step, Course, Run, entries_of};
 ghost use Rattle.cose_gate_core.specs.Anew.{bytes_of, entry_behind};
-ghost use Rattle.cose_gate_core.specs.Runs.{BeginsRun, JoinsRuns, LeavesOut, SayTheSame, IfThrough};
+ghost use Rattle.cose_gate_core.specs.Runs.{BeginsRun, JoinsRuns, LeavesOut, SayTheSame};
+ghost use Rattle.cose_gate_core.specs.Runs.{IfThrough, MadeRun, BeginsSteps};
 ghost use Rattle.cose_gate_core.specs.declared.gating.Counts.{Counts};
 ghost use Rattle.cose_gate_core.specs.declared.gating.GateFault.{GateFault};
 ghost use Rattle.cose_gate_core.specs.declared.gating.GateFault.TheVariants.{Memory};
 
 /// What a call of the gate says (`ran`) over bytes that are known. If it went through all items,
 /// these were asked about, noted and written, and they are the run of the input, which is one: the
-/// laws `one_run` and `every_input_run`. In any case the items that it went through, and the one at
-/// hand, begin each run of the input.
+/// laws `one_run` and `every_input_run`. In any case what was asked, noted and written is a
+/// beginning of what each run of the input says.
 pub fn ran_is_run<T, S, E>()
     ensures whole { (ends : E → Bool) (live : Bool) (rules : Rules T S) (old new : GateState T S)
         (result : Result Counts (GateFault E)) (b : List ℕ)
         → Ran ends live rules old new result → old.left ≡ Some b
-        → IfThrough ends result ((ss : List Step) × (rest : List ℕ)
-        × Run rules.limits rules.allows rules.aad old.offset b ss rest × Made rules old new ss) }
-    ensures front { (ends : E → Bool) (live : Bool) (rules : Rules T S) (old new : GateState T S)
+        → IfThrough ends result (MadeRun rules old new b result) }
+    ensures begins { (ends : E → Bool) (live : Bool) (rules : Rules T S) (old new : GateState T S)
         (result : Result Counts (GateFault E)) (b : List ℕ) (ss : List Step) (rest : List ℕ)
         → (a : Ran ends live rules old new result) → old.left ≡ Some b
         → Run rules.limits rules.allows rules.aad old.offset b ss rest
-        → BeginsRun rules.allows rules.aad (a.run.done ++ at_hand a.run.ending) ss }
+        → BeginsSteps rules.allows rules.aad a.run ss }
 {}
 
 /// What a call of the gate says of no bytes: it ends with `Ok`, unless the reader fails or offsets
