@@ -37,6 +37,10 @@ module _ {T : Type 0} (rules : Rules T (List Entry)) (old new : GateState T (Lis
     state ∙ (ap (λ f. folded_over f old.state (entries_of made)) folds ∙ noted_all old.state (entries_of made)),
   )
 
+-- a reader that counts no failure had none
+pub no_failure : (n : ℕ) → 0 ≡ 0 + n → n ≡ 0
+no_failure n e = omega (arith, e)
+
 -- a writer that counts no failure had none
 pub no_write : {E : Type 0} (r : Result Counts (GateFault E)) → 0 ≡ 0 + writer_failures r → r ≢ Err gating.Write
 no_write r none is = let h : 0 ≡ 0 + 1 = none ∙ ap (λ z. 0 + writer_failures z) is in absurd (let f : ⊥ = omega (arith, h) in f)
