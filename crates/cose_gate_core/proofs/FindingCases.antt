@@ -107,19 +107,19 @@ module _ (l : Bounds) where
       go (inr a) (inr b) = inr (none a b)
 
   -- ---- what is found, and if it is a shape, a fault of the value
-  abbrev Fault : Tree → Finding → Type 0
-  Fault t (barred shape) = (f : CoseFault) × IsMisshapen l t f
-  Fault t f = Unit {0}
+  abbrev HasFault : Tree → Finding → Type 0
+  HasFault t (barred shape) = (f : CoseFault) × IsMisshapen l t f
+  HasFault t f = Unit {0}
 
   abbrev Found : List ℕ → Tree → Type 0
-  Found b t = (f : Finding) × Finds l b t f × Fault t f
+  Found b t = (f : Finding) × Finds l b t f × HasFault t f
 
   judged_or_not : (b : List ℕ) (t : Tree) (m : MessageFields) → IsMessage l t m → (payload_of m ≡ None) ⊎ IsCarried m → IsUnsigned m ⊎ (IsUnsigned m → ⊥)
       → (l.strict ≡ true → b ≡ message_text m) ⊎ ((l.strict ≡ true) × (b ≢ message_text m)) → Found b t
   judged_or_not b t m i (inl e) u x = (barred detached, (m, i, e), tt)
   judged_or_not b t m i (inr c) (inl u) x = (barred no_signature, (m, i, c, u), tt)
   judged_or_not b t m i (inr c) (inr u) (inl x) = (judged m, ((i, c, u), x), tt)
-  judged_or_not b t m i (inr c) (inr u) (inr x) = (barred not_shortest, (m, (i, c, u), x), tt)
+  judged_or_not b t m i (inr c) (inr u) (inr x) = (barred not_shortest, (m, (i, c, u), x.0, x.1), tt)
 
   message_found : (b : List ℕ) (k : MessageKind) (u : Tree) → MessageCase k u → Found b (tag (number_of k) u)
   message_found b k u (inl (m, e, h)) =
@@ -169,7 +169,7 @@ error_there misplaced = (code.DecodeFailed (de.Semantic (Some 0) semantic_kind.W
 
 module _ (l : Bounds) (allows : Question → Bool) (aad : List ℕ) where
   -- a verdict that stands for what is found, and names a fault of the value if it is a shape
-  verdict_there : (t : Tree) (f : Finding) → Fault l t f → (v : Verdict) × IsVerdict allows aad f v × NamesShape l t v
+  verdict_there : (t : Tree) (f : Finding) → HasFault l t f → (v : Verdict) × IsVerdict allows aad f v × NamesShape l t v
   verdict_there t (judged m) h = (judged_by (first_no allows (questions m aad)), refl, answers_name l t (first_no allows (questions m aad)))
   verdict_there t (barred not_tagged) h = (Refused refusal.NotTagged, refl, tt)
   verdict_there t (barred encrypted) h = (Refused refusal.Encrypted, refl, tt)

@@ -43,7 +43,7 @@ in_group l b t (barred (other_tag n)) h = h
 in_group l b t (barred shape) h = h.0
 in_group l b t (barred detached) (m, (u, e, h), p) = (tag_of m, u, e, (kind_of m, refl))
 in_group l b t (barred no_signature) (m, (u, e, h), p, s) = (tag_of m, u, e, (kind_of m, refl))
-in_group l b t (barred not_shortest) (m, ((u, e, h), p, s), x) = (tag_of m, u, e, (kind_of m, refl))
+in_group l b t (barred not_shortest) (m, ((u, e, h), p, s), x, n) = (tag_of m, u, e, (kind_of m, refl))
 
 same_tag : (t : Tree) (n k : ℕ) (u v : Tree) → t ≡ tag n u → t ≡ tag k v → n ≡ k
 same_tag t n k u v a b = cc
@@ -176,7 +176,7 @@ body_once : (l : Bounds) (b : List ℕ) (t : Tree) (f g : Finding) → Body l b 
 body_once l b t f g (fits m i c) (fits n k d) = of_message_once l b m f g c (subst (λ (z : MessageFields). OfMessage l b z g) (sym (same_fields l t m n i k)) d)
 body_once l b t f g (fits m i c) (wrong none d) = absurd (none m i)
 body_once l b t f g (wrong none c) (fits m i d) = absurd (none m i)
-body_once l b t f g (wrong none c) (wrong no d) = c ∙ sym d
+body_once l b t f g (wrong none c) (wrong neither d) = c ∙ sym d
 
 pub finding_once : (l : Bounds) (b : List ℕ) (t : Tree) (f g : Finding) → Finds l b t f → Finds l b t g → f ≡ g
 finding_once l b t f g h k = by_group (is_message (group f))

@@ -2,13 +2,17 @@ use Rattle.std.proofs.Common.{refl, ap, ◌∙◌, arith}
 use Rattle.std.specs.Prelude.{Err}
 use Rattle.cose_gate_core.proofs.InOrder.{err_is}
 use Rattle.cose_gate_core.proofs.Reach.{item_grows}
-use Rattle.cose_gate_core.proofs.Outcomes.{reached_step, answer_read, answer_item, answer_noting, same_entry, nothing_read, read_of, read_far, stopped_not_long}
+use Rattle.cose_gate_core.proofs.Outcomes.{reached_step, answer_whole, answer_read, answer_item, answer_noting, same_entry, nothing_read, read_of, read_far, stopped_not_long}
 use Rattle.cose_gate_core.proofs.gating.gate_next.Goals as goal
 
 pub returns-in_err-front-clause-ran : goal.returns-in_err-front-clause-ran
 returns-in_err-front-clause-ran g c =
     rw (err_is _ _ c.from_residual.ensures.1) (λ live first come.
     answer_read _ g.R.Read.ends live _ _ _ _ _ come refl refl refl _ c.in_err-front.ensures.err (λ none same. c.in_err-front.ensures.no_memory_of_nothing none (ap Err same)))
+
+pub returns-in_default-clause-ran : goal.returns-in_default-clause-ran
+returns-in_default-clause-ran g c = λ live first come.
+    answer_whole _ g.R.Read.ends live _ _ _ c.args.item.counts come refl refl refl (rw c.in_default.is at c.in_ok-front.ensures.next)
 
 pub returns-in_err-verdict-clause-ran : goal.returns-in_err-verdict-clause-ran
 returns-in_err-verdict-clause-ran g c =

@@ -12,8 +12,10 @@ same limits allows aad at to a b ss rs rest more i p q e =
     alike limits allows aad i ss rs e (run_told limits allows aad at a ss rest p).all (run_told limits allows aad to b rs more q).all
 
 pub returns : goal.returns
-returns c = λ limits allows aad at to a b ss rs rest more i p q e. let all = same limits allows aad at to a b ss rs rest more i p q e in record {
-  questions = all.asks;
-  output = all.writes;
-  verdicts = all.verdicts;
+returns c = record {
+  same = λ limits allows aad at to a b ss rs rest more i p q e. let all = same limits allows aad at to a b ss rs rest more i p q e in record {
+    questions = all.asks;
+    output = all.writes;
+    verdicts = all.verdicts;
+  };
 }
