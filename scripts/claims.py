@@ -28,9 +28,10 @@ def declared():
             found.setdefault(it[1], []).append((crate, text[it.end():stop]))
         for name in re.findall(r"\b(?:struct|enum|trait) (\w+)", text):
             found.setdefault(name, []).append((crate, f"ensures {text}"))
-    gate = (TOP / "crates/cose_gate/specs/Gate.antt").read_text(encoding="utf-8")
-    for name in re.findall(r"^  pub (\w+)", gate[gate.index("\npub record Gates "):], re.M):
-        found.setdefault(name, []).append(("cose_gate", "ensures"))
+    for file, record in (("cose_gate/specs/Gate.antt", "Gates"), ("cose_gate_core/specs/GateRun.antt", "Ran")):
+        text = (TOP / "crates" / file).read_text(encoding="utf-8")
+        for name in re.findall(r"^  pub (\w+)", text[text.index(f"\npub record {record} "):], re.M):
+            found.setdefault(name, []).append(("cose_gate", "ensures"))
     return found
 
 

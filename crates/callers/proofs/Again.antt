@@ -1,24 +1,22 @@
 -- What a relay wrote, relayed again.
-use Rattle.std.proofs.Common.{◌≡◌, ℕ, ◌≤◌, List, [], Bool, true, false, ap, sym, subst, ◌∙◌}
-use Rattle.cose_gate.specs.CodeLimits.{nesting_of, layers_of}
+use Rattle.std.proofs.Common.{◌≡◌, ℕ, List, [], ap, sym, subst, ◌∙◌}
 use Rattle.cose_gate.specs.Counts.{Counts}
-use Rattle.cose_gate.specs.Findings.{Bounds, plain, only_exact}
-use Rattle.cose_gate.specs.Fixed.{Admits, FixedPoint}
+use Rattle.cose_gate.specs.Findings.{Bounds}
+use Rattle.cose_gate.specs.Fixed.{FixedPoint}
+use Rattle.cose_gate.specs.Misshapen.{NamesShapes}
 use Rattle.cose_gate.specs.Run.{Step, Run, output_of, passed_count, refused_count}
-use Rattle.callers.specs.Gatings.{limits_by}
 use Rattle.callers.specs.Judging.{allows, RelayedRun, Unchanged}
-use Rattle.callers.specs.declared.gatings.Gating.{Gating}
 
 -- the first relay goes by the limits `one`, the second by `two`, over what the first wrote
 pub unchanged : (one two : Bounds) (ids kept : List (List ℕ)) (aad input once lent again : List ℕ) (first second : Counts) → kept ≡ ids → lent ≡ once
-    → (ss : List Step) × (rest : List ℕ) × Run one (allows ids) aad 0 input ss rest
+    → (ss : List Step) × (rest : List ℕ) × Run one (allows ids) aad 0 input ss rest × NamesShapes one ss
     → ((ss : List Step) (rest : List ℕ) → Run one (allows ids) aad 0 input ss rest → RelayedRun ids aad ss rest once first)
     → ((ss : List Step) (rest : List ℕ) → Run two (allows kept) aad 0 lent ss rest → RelayedRun kept aad ss rest again second)
     → ((ss : List Step) (rest : List ℕ) → Run one (allows ids) aad 0 input ss rest → (rs : List Step) × Run two (allows ids) aad 0 (output_of (allows ids) aad ss) rs [])
     → ((ss rs : List Step) (rest more : List ℕ) → Run one (allows ids) aad 0 input ss rest → Run two (allows ids) aad 0 (output_of (allows ids) aad ss) rs more
     → FixedPoint two (allows ids) aad ss rs more)
     → Unchanged once again first second
-unchanged one two ids kept aad input once lent again first second same is (ss, rest, run) relays relays_again there fixed =
+unchanged one two ids kept aad input once lent again first second same is (ss, rest, run, named) relays relays_again there fixed =
     let a = relays ss rest run in
     let t = there ss rest run in
     let f = fixed ss t.0 rest [] run t.1 in
@@ -29,13 +27,3 @@ unchanged one two ids kept aad input once lent again first second same is (ss, r
       passed = b.passed ∙ ap (λ (k : List (List ℕ)). passed_count (allows k) aad t.0) same ∙ f.passed ∙ sym a.passed;
       refused = b.refused ∙ ap (λ (k : List (List ℕ)). refused_count (allows k) aad t.0) same ∙ f.refused;
     }
-
--- wider limits, strict or not, let through what a gating wrote
-pub wider_admits : (gating wider : Gating) → nesting_of gating.limits ≤ nesting_of wider.limits → layers_of gating.limits ≤ layers_of wider.limits
-    → ((limits : Bounds) (nesting layers : ℕ) → limits.nesting ≤ nesting → limits.layers ≤ layers → Admits limits (plain nesting layers))
-    → ((limits : Bounds) (nesting layers : ℕ) → limits.nesting ≤ nesting → limits.layers ≤ layers → Admits limits (only_exact nesting layers))
-    → (strict stricter : Bool) → Admits (limits_by gating strict) (limits_by wider stricter)
-wider_admits gating wider n k plains exacts false false = plains (limits_by gating false) (nesting_of wider.limits) (layers_of wider.limits) n k
-wider_admits gating wider n k plains exacts false true = exacts (limits_by gating false) (nesting_of wider.limits) (layers_of wider.limits) n k
-wider_admits gating wider n k plains exacts true false = plains (limits_by gating true) (nesting_of wider.limits) (layers_of wider.limits) n k
-wider_admits gating wider n k plains exacts true true = exacts (limits_by gating true) (nesting_of wider.limits) (layers_of wider.limits) n k

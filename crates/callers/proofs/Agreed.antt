@@ -25,7 +25,7 @@ module _ (allows : Question → Bool) (aad : List ℕ) where
       let q = run.items.sequence in
       let r = read_once one usual.nesting b s.item.bytes more q.2.0 c.item s.item.value (sym is ∙ q.2.1) c.reads q.1 in
       let here : Finds usual s.item.bytes s.item.value (judged c.message) =
-      subst (λ (t : Tree). Finds usual s.item.bytes t (judged c.message)) r.1 (c.is, refl) in
+      subst (λ (t : Tree). Finds usual s.item.bytes t (judged c.message)) r.1 (c.is, λ s. (let no : false ≡ true = s in cc)) in
       let f = law usual s.item.bytes s.item.value s.finding (judged c.message) run.steps.0 here in
       (s, ss, refl, ap (λ (g : Finding). passes allows aad g) f ∙ sym c.answer)
 

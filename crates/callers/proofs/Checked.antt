@@ -7,7 +7,7 @@ use Rattle.ciborium_ll.specs.declared.write.Write.{Ghosts as Writes}
 use Rattle.ciborium_ll.specs.Reading.{Moves}
 use Rattle.coset.specs.KeyFields.{KeyFields}
 use Rattle.cose_gate.specs.Asked.{first_no}
-use Rattle.cose_gate.specs.Findings.{Bounds, plain, usual, IsJudged}
+use Rattle.cose_gate.specs.Findings.{Bounds, usual, IsJudged, within}
 use Rattle.cose_gate.specs.HmacJudges.{says_yes}
 use Rattle.cose_gate.specs.Questions.{Question, MessageFields, sign1, mac0, sign, mac, sign1_question, mac0_question, all_questions, questions, or_nothing}
 use Rattle.cose_gate.specs.Reading.{IfKnown}
@@ -94,13 +94,13 @@ handed_on w out out' (Err e) text p = (p.err, p.failed)
 pub is_handed_on : {T W F E : Type 0} (w : Writes W F) (out out' : W) (r : Result (Streamed F) E) (levels layers' : ℕ) (ks ks' : List KeyFields) (l l' : Option (List ℕ)) (at at' : ℕ) (decided : T → Question → T)
     (aad : List ℕ) (told told' : T) (room : ℕ) (lengths : List ℕ) → levels ≡ nesting → layers' ≡ layers → ks' ≡ ks
     → ((t : Tree) (m : MessageFields) (aad : List ℕ) → IsJudged usual t m → all_questions m aad ≡ Some (questions m aad))
-    → IfOk r (λ s. Moves l l' at at' (CopiedBy (plain levels layers') decided (says_yes ks') aad told told' room lengths (WritesAll w out out' s.written) s.yes))
+    → IfOk r (λ s. Moves l l' at at' (CopiedBy (within levels layers' false) decided (says_yes ks') aad told told' room lengths (WritesAll w out out' s.written) s.yes))
     → IfOk r (λ s. (payload front : List ℕ) × Consumes l l' front × Carries (says_yes ks) aad s.yes payload front × IsHandedOn s.written (w.written out) (w.written out') (w.failed out) (w.failed out') payload)
 is_handed_on w out out' (Ok s) levels layers' ks ks' l l' at at' decided aad told told' room lengths n y e law m =
     let c : CopiedBy usual decided (says_yes ks) aad told told' room lengths (WritesAll w out out' s.written) s.yes m.bytes =
     subst (λ (k : List KeyFields). CopiedBy usual decided (says_yes k) aad told told' room lengths (WritesAll w out out' s.written) s.yes m.bytes) e
-    (subst (λ (z : ℕ). CopiedBy (plain nesting z) decided (says_yes ks') aad told told' room lengths (WritesAll w out out' s.written) s.yes m.bytes) y
-    (subst (λ (z : ℕ). CopiedBy (plain z layers') decided (says_yes ks') aad told told' room lengths (WritesAll w out out' s.written) s.yes m.bytes) n m.has)) in
+    (subst (λ (z : ℕ). CopiedBy (within nesting z false) decided (says_yes ks') aad told told' room lengths (WritesAll w out out' s.written) s.yes m.bytes) y
+    (subst (λ (z : ℕ). CopiedBy (within z layers' false) decided (says_yes ks') aad told told' room lengths (WritesAll w out out' s.written) s.yes m.bytes) n m.has)) in
     let k = c.checked in
     let a = asked_once (says_yes ks) k.message aad k.single (law k.item k.message aad k.is) in (
       c.payload,

@@ -8,7 +8,8 @@ use Rattle.cose_gate.specs.Findings.{Bounds}
 use Rattle.cose_gate.specs.GateFault.{GateFault}
 use Rattle.cose_gate.specs.GateFault.TheVariants.{Write}
 use Rattle.cose_gate.specs.KeyFields.{KeyFields}
-use Rattle.cose_gate.specs.Program.{Devices, result_of}
+use Rattle.cose_gate.specs.GateRun.{result_of}
+use Rattle.cose_gate.specs.Program.{Devices}
 use Rattle.cose_gate.specs.Questions.{Question}
 use Rattle.cose_gate.specs.Telling.{items_of, last_of, status_at, RanTold, EndsTold, not_begun, after_run}
 use Rattle.cose_gate_program.specs.declared.beginning.NotBegun.{NotBegun}

@@ -1,21 +1,20 @@
 -- What the clauses of the gate say after a fault.
-use Rattle.std.proofs.Common.{◌≡◌, ℕ, ◌+◌, ◌^◌, ◌<◌, max, inl, inr, List, [], ◌∷◌, ◌++◌, length, Option, Some, Bool, zero-add, sym, subst, ap, ◌∙◌, append_assoc, append-nil, arith}
+use Rattle.std.proofs.Common.{◌≡◌, ℕ, ◌+◌, ◌^◌, ◌<◌, max, List, [], ◌∷◌, ◌++◌, length, Option, Some, Bool, zero-add, sym, subst, ap, ◌∙◌, append_assoc, append-nil, arith}
 use Rattle.std.specs.Prelude.{Result, Ok, Err, IfErr, ◌≢◌}
-use Rattle.std.specs.Io.KnownBytes.{Appends}
 use Rattle.cose_gate.specs.Anew.{AreEntries}
 use Rattle.cose_gate.specs.Asked.{folded_over}
 use Rattle.cose_gate.specs.Counts.{Counts}
 use Rattle.cose_gate.specs.Entry.{Entry}
 use Rattle.cose_gate.specs.Findings.{usual, IsJudged}
 use Rattle.cose_gate.specs.Front.{Reads}
-use Rattle.cose_gate.specs.Gate.{IfWrite, IfMemory, Noted, WriteFailed, OutOfMemory}
 use Rattle.cose_gate.specs.GateFault.{GateFault}
 use Rattle.cose_gate.specs.GateFault.TheVariants as gating
-use Rattle.cose_gate.specs.Outcome.{Rules, GateState, Answers, writer_failures}
+use Rattle.cose_gate.specs.Misshapen.{NamesShapes}
+use Rattle.cose_gate.specs.Outcome.{Rules, GateState, IfTooLong, writer_failures}
 use Rattle.cose_gate.specs.Questions.{MessageFields}
 use Rattle.cose_gate.specs.ReadError.TheVariants.{TooLong}
-use Rattle.cose_gate.specs.Reading.{IfKnown}
-use Rattle.cose_gate.specs.Run.{Step, output_of}
+use Rattle.cose_gate.specs.Reading.{IfKnown, IsFar}
+use Rattle.cose_gate.specs.Run.{Step, entries_of}
 use Rattle.cose_gate.specs.Stated.{IsSingle, Stated}
 use Rattle.cose_gate.specs.declared.fault.StreamFault.{StreamFault}
 use Rattle.cose_gate.specs.declared.fault.StreamFault.TheVariants as streaming
@@ -29,38 +28,18 @@ noted_all old [] = sym (append-nil old)
 noted_all old (e ∷ es) = noted_all (old ++ e ∷ []) es ∙ append_assoc old (e ∷ []) es
 
 module _ {T : Type 0} (rules : Rules T (List Entry)) (old new : GateState T (List Entry)) (ss : List Step) where
-  pub noted : rules.folded ≡ (λ ns e. ns ++ e ∷ []) → rules.limits ≡ usual → Noted rules old new ss → spec.Noted rules.allows rules.aad ss old.state new.state
-  noted folds limits n = (
-    n.entries,
-    subst (λ l. AreEntries l rules.allows rules.aad ss n.entries) limits n.are,
-    n.state ∙ (ap (λ f. folded_over f old.state n.entries) folds ∙ noted_all old.state n.entries),
+  pub noted : rules.folded ≡ (λ ns e. ns ++ e ∷ []) → rules.limits ≡ usual → (made : List Step) → NamesShapes rules.limits made → AreEntries rules.allows rules.aad ss (entries_of made)
+      → new.state ≡ folded_over rules.folded old.state (entries_of made) → spec.Noted rules.allows rules.aad ss old.state new.state
+  noted folds limits made shapes are state = (
+    made,
+    subst (λ l. NamesShapes l made) limits shapes,
+    are,
+    state ∙ (ap (λ f. folded_over f old.state (entries_of made)) folds ∙ noted_all old.state (entries_of made)),
   )
 
-module _ {T S : Type 0} (rules : Rules T S) (old new : GateState T S) (ss : List Step) where
-  pub torn : {E : Type 0} (ends : E → Bool) (r : Result Counts (GateFault E)) → Answers ends rules old new r → IfWrite r (WriteFailed rules old new ss) → IfWrite r (spec.Torn rules.allows rules.aad ss old.written new.written)
-  torn ends (Ok counts) ran t = tt
-  torn ends (Err (gating.Decode e)) ran t = tt
-  torn ends (Err gating.Write) ran t = (t.done, t.last, t.behind, t.whole, t.text, t.front, t.written)
-  torn ends (Err gating.Memory) ran t = tt
-
-  pub whole : {E : Type 0} (ends : E → Bool) (r : Result Counts (GateFault E)) → Answers ends rules old new r → IfMemory r (OutOfMemory rules old new ss) → IfMemory r (spec.WholeTexts rules.allows rules.aad ss old.written new.written)
-  whole ends (Ok counts) ran t = tt
-  whole ends (Err (gating.Decode e)) ran t = tt
-  whole ends (Err gating.Write) ran t = tt
-  whole ends (Err gating.Memory) ran t = elim t.texts_are [
-    | inl is ↦ (
-      t.done,
-      t.last ++ t.behind,
-      t.whole,
-      subst (λ (z : List Step). Appends old.written new.written (output_of rules.allows rules.aad z)) is.0 t.written,
-    )
-    | inr is ↦ (
-      t.done ++ t.last,
-      t.behind,
-      t.whole ∙ sym (append_assoc t.done t.last t.behind),
-      subst (λ (z : List Step). Appends old.written new.written (output_of rules.allows rules.aad z)) is.0 t.written,
-    )
-  ]
+-- a reader that counts no failure had none
+pub no_failure : (n : ℕ) → 0 ≡ 0 + n → n ≡ 0
+no_failure n e = omega (arith, e)
 
 -- a writer that counts no failure had none
 pub no_write : {E : Type 0} (r : Result Counts (GateFault E)) → 0 ≡ 0 + writer_failures r → r ≢ Err gating.Write
@@ -93,3 +72,8 @@ never_long (Err f) room at far few e =
     let h : Err f ≡ Err (streaming.Decode TooLong) = e in
     let g : f ≡ streaming.Decode TooLong = cc in
     absurd (let l = far g in let k : ⊥ = omega (arith, few, l) in k)
+
+pub never_far : {E : Type 0} (r : Result Counts (GateFault E)) (at : ℕ) → IfErr r (IfTooLong (IsFar at)) → at + 4096 < 2 ^ 64 → r ≢ Err (gating.Decode TooLong)
+never_far {E} r at far few e =
+    let l : IsFar at = subst (λ (z : Result Counts (GateFault E)). IfErr z (IfTooLong (IsFar at))) e far in
+    absurd (let k : ⊥ = omega (arith, few, l) in k)

@@ -2,7 +2,8 @@
 use Rattle.std.proofs.Common.{arith, ◌≡◌, ℕ, ◌<◌, inl, inr, List, ◌++◌, length, drop, Option, Some, None, Bool, sym, ap, subst, ◌∙◌}
 use Rattle.std.proofs.lemmas.Bool.{cases_lt}
 use Rattle.std.specs.Prelude.{MatchOption, IfSome}
-use Rattle.cose_gate_records.specs.Calls.{Answers, Buffers, Checked, NoMemory, Passed, Places, Runs, TellsIn, Told, within}
+use Rattle.cose_gate_records.specs.Calls.{Answers, Buffers, Checked, NoMemory, Passed, Places, Runs, TellsIn, Told}
+use Rattle.cose_gate_records.specs.Findings.{within}
 use Rattle.cose_gate_records.specs.declared.answer.Answer.{Answer}
 use Rattle.callers.specs.Placed.{IsAccepted, IsIn}
 use Rattle.callers.specs.declared.buffers.Lengths.{Lengths}

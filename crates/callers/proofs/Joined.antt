@@ -3,14 +3,15 @@ use Rattle.std.proofs.Common.{◌≡◌, ℕ, List, [], ◌++◌, map, length, a
 use Rattle.cose_gate.specs.Anew.{entry_behind}
 use Rattle.cose_gate.specs.Counts.{Counts}
 use Rattle.cose_gate.specs.Findings.{usual}
+use Rattle.cose_gate.specs.Misshapen.{NamesShapes}
 use Rattle.cose_gate.specs.Run.{Step, Run, output_of, entries_of}
 use Rattle.cose_gate.specs.Runs.{JoinsRuns}
 use Rattle.callers.specs.Judging.{allows, RelayedRun}
 
 pub joined : (ids then last : List (List ℕ)) (aad a b ab one two all : List ℕ) (n m k : Counts)
     → then ≡ ids → last ≡ then → ab ≡ a ++ b
-    → (ss : List Step) × (rest : List ℕ) × Run usual (allows ids) aad 0 a ss rest
-    → (ss : List Step) × (rest : List ℕ) × Run usual (allows ids) aad 0 b ss rest
+    → (ss : List Step) × (rest : List ℕ) × Run usual (allows ids) aad 0 a ss rest × NamesShapes usual ss
+    → (ss : List Step) × (rest : List ℕ) × Run usual (allows ids) aad 0 b ss rest × NamesShapes usual ss
     → ((ss : List Step) (rest : List ℕ) → Run usual (allows ids) aad 0 a ss rest → RelayedRun ids aad ss rest one n)
     → ((ss : List Step) (rest : List ℕ) → Run usual (allows then) aad 0 b ss rest → RelayedRun then aad ss rest two m)
     → ((ss : List Step) (rest : List ℕ) → Run usual (allows last) aad 0 ab ss rest → RelayedRun last aad ss rest all k)
@@ -19,7 +20,7 @@ pub joined : (ids then last : List (List ℕ)) (aad a b ab one two all : List �
     → ((ss rs ts : List Step) (rest more : List ℕ) → Run usual (allows ids) aad 0 a ss [] → Run usual (allows ids) aad 0 b rs rest → Run usual (allows ids) aad 0 (a ++ b) ts more
     → JoinsRuns (allows ids) aad (length a) ss rs ts rest more)
     → all ≡ one ++ two
-joined ids then last aad a b ab one two all n m k same stays is (ss, rest, first) (rs, more, second) relays goes ends there law =
+joined ids then last aad a b ab one two all n m k same stays is (ss, rest, first, named) (rs, more, second, called) relays goes ends there law =
     let x = relays ss rest first in
     let whole : Run usual (allows ids) aad 0 a ss [] = subst (λ (z : List ℕ). Run usual (allows ids) aad 0 a ss z) x.rest_is first in
     let y = goes rs more (subst (λ (i : List (List ℕ)). Run usual (allows i) aad 0 b rs more) (sym same) second) in

@@ -12,6 +12,7 @@ pub mod InFront
 pub mod Joined
 pub mod Keys
 pub mod NoMemoryNoted
+pub mod Over
 pub mod Recorded
 pub mod Refilled
 pub mod Relay
@@ -20,8 +21,6 @@ pub mod SameOutput
 pub mod SameRecords
 pub mod Sealed
 pub mod Spelled
-pub mod Stopped
 pub mod Tagging
 pub mod Told
 pub mod Written
-pub mod Wrote

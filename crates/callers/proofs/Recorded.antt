@@ -3,7 +3,8 @@ use Rattle.std.proofs.Common.{◌≡◌, ℕ, ◌+◌, ◌<◌, List, [], ◌∷
 use Rattle.std.proofs.lemmas.List.Sums.{sum_by-cons}
 use Rattle.std.specs.Prelude.{is_none, option_map, All, MatchBool}
 use Rattle.cose_gate.specs.Asked.{folded_over, first_no}
-use Rattle.cose_gate.specs.Findings.{Bounds, usual, Finding, judged, barred, excluded, Finds, IsJudged}
+use Rattle.cose_gate.specs.Findings.{Bounds, usual, Finding, judged, barred, Finds, IsJudged}
+use Rattle.cose_gate.specs.Misshapen.{NamesShapes}
 use Rattle.cose_gate.specs.Front.{Reads}
 use Rattle.cose_gate.specs.Items.{Item, ItemsWithin, item_at}
 use Rattle.cose_gate.specs.Questions.{Question, MessageFields, questions}
@@ -41,8 +42,7 @@ module _ (t : Tree) where
   told b aad (judged m) finds only answer is =
       subst Told (sym (is ∙ all_pass (questions m aad))) (m, finds.0)
   told b aad (barred r) finds only answer is =
-      subst Told (sym is) (λ m j. let h : barred r ≡ judged m = only (judged m) (j, refl) in cc)
-  told b aad (excluded m r) finds only answer is = absurd (let h : None ≡ Some r = finds.1 in let k : ⊥ = cc in k)
+      subst Told (sym is) (λ m j. let h : barred r ≡ judged m = only (judged m) (j, λ s. (let no : false ≡ true = s in cc)) in cc)
 
   module _ (b aad : List ℕ) (found : (f : Finding) × Finds usual b t f × ((g : Finding) → Finds usual b t g → f ≡ g)) where
     of_one : (ss : List Step) → map (λ s. s.item) ss ≡ item_at 0 b t ∷ [] → Steps usual (answers None) aad 1 ss
@@ -64,21 +64,20 @@ module _ (t : Tree) where
       → ((limit at : ℕ) (b : List ℕ) (is js : List Item) (rest more : List ℕ) → ItemsWithin limit at b is rest → ItemsWithin limit at b js more → (is ≡ js) × (rest ≡ more))
       → ((limits : Bounds) (b : List ℕ) (nesting : ℕ) (t : Tree) → Reads b nesting t → All (λ x. x < 256) b
       → (f : Finding) × Finds limits b t f × ((g : Finding) → Finds limits b t g → f ≡ g))
-      → ((limits : Bounds) (allows : Question → Bool) (aad : List ℕ) (at : ℕ) (b : List ℕ) → All (λ x. x < 256) b → (ss : List Step) × (rest : List ℕ) × Run limits allows aad at b ss rest)
+      → ((limits : Bounds) (allows : Question → Bool) (aad : List ℕ) (at : ℕ) (b : List ℕ) → All (λ x. x < 256) b → (ss : List Step) × (rest : List ℕ) × Run limits allows aad at b ss rest × NamesShapes limits ss)
       → (b aad : List ℕ) → All (λ x. x < 256) b → Reads b usual.nesting t
-      → (refusing : Option (List ℕ)) (at : ℕ) (left : Option (List ℕ)) (passed refused : ℕ)
-      → ((a : List ℕ) (ss : List Step) (rest : List ℕ) → left ≡ Some a → Run usual (answers refusing) aad at a ss rest
+      → (refusing : Option (List ℕ)) (passed refused : ℕ)
+      → ((ss : List Step) (rest : List ℕ) → Run usual (answers refusing) aad 0 b ss rest
       → (passed ≡ passed_count (answers refusing) aad ss) × (refused ≡ refused_count (answers refusing) aad ss))
-      → refusing ≡ None → at ≡ 0 → left ≡ Some b
+      → refusing ≡ None
       → Told (nat_eq refused 0)
-  is_judged one items found there b aad low reads refusing at left passed refused count none start is =
+  is_judged one items found there b aad low reads refusing passed refused count none =
       let alone : ItemsWithin usual.nesting 0 b (item_at 0 b t ∷ []) []
       = record { sequence = (refl, reads, ([], sym (append-nil b), refl)); ends = no_item one usual.nesting } in
       let r = there usual (answers None) aad 0 b low in
-      let run : Run usual (answers refusing) aad at b r.0 r.1
-      = subst (λ (k : Option (List ℕ)). Run usual (answers k) aad at b r.0 r.1) (sym none)
-      (subst (λ (n : ℕ). Run usual (answers None) aad n b r.0 r.1) (sym start) r.2) in
+      let run : Run usual (answers refusing) aad 0 b r.0 r.1
+      = subst (λ (k : Option (List ℕ)). Run usual (answers k) aad 0 b r.0 r.1) (sym none) r.2 in
       let n : refused ≡ refused_count (answers None) aad r.0
-      = subst (λ (k : Option (List ℕ)). refused ≡ refused_count (answers k) aad r.0) none (count b r.0 r.1 is run).1 in
+      = subst (λ (k : Option (List ℕ)). refused ≡ refused_count (answers k) aad r.0) none (count r.0 r.1 run).1 in
       of_one b aad (found usual b usual.nesting t reads low) r.0
       (items usual.nesting 0 b (map (λ s. s.item) r.0) (item_at 0 b t ∷ []) r.1 [] r.2.items alone).0 r.2.steps refused n

@@ -1,12 +1,13 @@
 -- What a relay writes of inputs that are alike.
-use Rattle.std.proofs.Common.{◌≡◌, ℕ, List, ◌∷◌, ◌++◌, map, Bool, ap, sym, subst, ◌∙◌, append_assoc}
+use Rattle.std.proofs.Common.{◌≡◌, ℕ, List, ◌∷◌, ◌++◌, map, Bool, false, refl, ap, sym, subst, ◌∙◌, append_assoc}
 use Rattle.std.proofs.lemmas.Grind.{flat_map-append}
 use Rattle.std.proofs.lemmas.List.{append_cancel_left}
 use Rattle.std.proofs.lemmas.Simd.{map-map}
-use Rattle.cose_gate.specs.Anew.{bytes_of, IgnoresSpelling}
+use Rattle.cose_gate.specs.Anew.{bytes_of}
 use Rattle.cose_gate.specs.Counts.{Counts}
 use Rattle.cose_gate.specs.Findings.{Bounds, usual}
 use Rattle.cose_gate.specs.Items.{Item, ItemsWithin}
+use Rattle.cose_gate.specs.Misshapen.{NamesShapes}
 use Rattle.cose_gate.specs.Questions.{Question}
 use Rattle.cose_gate.specs.Run.{Step, Run, output_of}
 use Rattle.cose_gate.specs.Runs.{LeavesOut, SayTheSame}
@@ -25,16 +26,15 @@ module _ (ids then : List (List ℕ)) (same : then ≡ ids) (aad : List ℕ) whe
       ∙ ap (λ (k : List (List ℕ)). output_of (allows k) aad ss) same
 
   pub same_output : ((limit at : ℕ) (b : List ℕ) (is js : List Item) (rest more : List ℕ) → ItemsWithin limit at b is rest → ItemsWithin limit at b js more → (is ≡ js) × (rest ≡ more))
-      → IgnoresSpelling usual
-      → ((limits : Bounds) (allows : Question → Bool) (aad : List ℕ) (at to : ℕ) (a b : List ℕ) (ss rs : List Step) (rest more : List ℕ) → IgnoresSpelling limits
+      → ((limits : Bounds) (allows : Question → Bool) (aad : List ℕ) (at to : ℕ) (a b : List ℕ) (ss rs : List Step) (rest more : List ℕ) → limits.strict ≡ false
       → Run limits allows aad at a ss rest → Run limits allows aad to b rs more → map (λ s. s.item.value) ss ≡ map (λ s. s.item.value) rs → SayTheSame allows aad ss rs)
       → (a b first second : List ℕ) (n m : Counts)
-      → (ss : List Step) × (rest : List ℕ) × Run usual (allows ids) aad 0 a ss rest
-      → (ss : List Step) × (rest : List ℕ) × Run usual (allows ids) aad 0 b ss rest
+      → (ss : List Step) × (rest : List ℕ) × Run usual (allows ids) aad 0 a ss rest × NamesShapes usual ss
+      → (ss : List Step) × (rest : List ℕ) × Run usual (allows ids) aad 0 b ss rest × NamesShapes usual ss
       → ((ss : List Step) (rest : List ℕ) → Run usual (allows ids) aad 0 a ss rest → RelayedRun ids aad ss rest first n)
       → ((ss : List Step) (rest : List ℕ) → Run usual (allows then) aad 0 b ss rest → RelayedRun then aad ss rest second m)
       → HaveSameItems a b → second ≡ first
-  same_output items ignores law a b first second n m (ss, rest, run) (rs, more, other) relays goes h =
+  same_output items law a b first second n m (ss, rest, run, named) (rs, more, other, called) relays goes h =
       let x = items usual.nesting 0 a (map (λ s. s.item) ss) h.is rest h.rest run.items h.one in
       let y = items usual.nesting 0 b (map (λ s. s.item) rs) h.js more h.more other.items h.other in
       let trees : map (λ (s : Step). s.item.value) ss ≡ map (λ (s : Step). s.item.value) rs
@@ -43,7 +43,7 @@ module _ (ids then : List (List ℕ)) (same : then ≡ ids) (aad : List ℕ) whe
       ∙ (h.same
       ∙ (ap (λ (is : List Item). map (λ i. i.value) is) (sym y.0)
       ∙ map-map (λ (i : Item). i.value) (λ (s : Step). s.item) rs))) in
-      let say = law usual (allows ids) aad 0 0 a b ss rs rest more ignores run other trees in
+      let say = law usual (allows ids) aad 0 0 a b ss rs rest more refl run other trees in
       then_wrote b second m rs more goes other ∙ (sym say.output ∙ sym (relays ss rest run).output_is)
 
   pub without : ((limits : Bounds) (allows : Question → Bool) (aad : List ℕ) (at : ℕ) (b : List ℕ) (ss : List Step) (rest : List ℕ) → Run limits allows aad at b ss rest → b ≡ bytes_of ss ++ rest)

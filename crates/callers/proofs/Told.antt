@@ -3,20 +3,21 @@ use Rattle.std.proofs.Common.{◌≡◌, ℕ, ◌+◌, ◌<◌, ◌⊎◌, inl, 
 use Rattle.std.proofs.lemmas.Bool.Decides.{nat_tests}
 use Rattle.std.proofs.lemmas.Grind.{flat_map-append}
 use Rattle.std.proofs.lemmas.List.Sums.{sum_by-cons}
-use Rattle.std.specs.Prelude.{Result, Err}
+use Rattle.std.specs.Prelude.{Result, Ok, Err}
 use Rattle.std.specs.Io.KnownBytes.{Appends}
 use Rattle.cose_gate.specs.Asked.{IsFront, folded_over}
 use Rattle.cose_gate.specs.Counts.{Counts}
 use Rattle.cose_gate.specs.Entry.{Entry}
-use Rattle.cose_gate.specs.Findings.{Bounds, usual, Finding, judged, barred, excluded, Finds}
-use Rattle.cose_gate.specs.Fixed.{ExcludesInexact}
+use Rattle.cose_gate.specs.Findings.{Bounds, usual, Finding, judged, barred, Finds}
 use Rattle.cose_gate.specs.GateFault.{GateFault}
 use Rattle.cose_gate.specs.GateFault.TheVariants as gating
 use Rattle.cose_gate.specs.Items.{SequenceWithin}
 use Rattle.cose_gate.specs.KeyFields.{KeyFields}
-use Rattle.cose_gate.specs.Outcome.{Rules, GateState, Whole, Outcome, Answers}
+use Rattle.cose_gate.specs.GateRun.{asking as asks, writing, noting, Ending, finished, unflushed, unreadable, no_memory, within, at_hand, taken_at, asked_at, asked_in, result_of, Ran}
+use Rattle.cose_gate.specs.Outcome.{Rules, GateState}
 use Rattle.cose_gate.specs.Notice.{Notice}
-use Rattle.cose_gate.specs.Program.{Devices, Ending, finished, unflushed, unreadable, no_memory, within, asking as asks, writing, noting, Shows, result_of}
+use Rattle.cose_gate_program.specs.declared.devices.InputFault.{InputFault}
+use Rattle.cose_gate.specs.Program.{Devices, Shows}
 use Rattle.cose_gate.specs.Telling.{last_of, status_at, RanTold, EndsTold, not_begun, after_run}
 use Rattle.cose_gate_program.proofs.Tellings.{ran_as}
 use Rattle.callers.proofs.Ended.{ran_status, not_few}
@@ -27,7 +28,8 @@ use Rattle.cose_gate.specs.Run.{Step, Steps, Course, asked_of, passes, text_of, 
 use Rattle.cose_gate.specs.Tree.{Tree}
 use Rattle.callers.specs.Asking.{always, IsAsked, IsAskedInPart, IsPassedBy, AreRecords, IsPassed, RanByIds, IsHandedOn}
 use Rattle.callers.specs.Judging.{allows}
-use Rattle.callers.proofs.Relay.{decided, told_all}
+use Rattle.callers.proofs.Relay.{decided, told_all, appended, whole_course}
+use Rattle.cose_gate_core.proofs.RanWhole as ran
 
 -- records that are told one after another are in that order
 told_records : (told : List ℕ) (qs : List Question)
@@ -35,17 +37,6 @@ told_records : (told : List ℕ) (qs : List Question)
 told_records told [] = sym (append-nil told)
 told_records told (q ∷ qs) =
     told_records (told ++ record_of q) qs ∙ append_assoc told (record_of q) (flat_map record_of qs)
-
-whole_front : (qs : List Question) → IsFront qs qs
-whole_front qs = record { more = []; whole = sym (append-nil qs) }
-
--- the bytes to come are the input
-pub here : {T S E : Type 0} (ends : E → Bool) (rules : Rules T S) (old new : GateState T S)
-    (input : List ℕ) (r : Result Counts (GateFault E)) → old.left ≡ Some input
-    → Answers ends rules old new r → Outcome ends rules old new input r
-here ends rules old new input r is a =
-    let e : input ≡ a.input = subst (λ (l : Option (List ℕ)). IfKnown l (λ b. b ≡ a.input)) is a.is in
-    subst (λ (i : List ℕ). Outcome ends rules old new i r) (sym e) a.outcome
 
 -- what the gate goes by with a judge that tells what it is asked, and with one that keeps nothing
 abbrev pub asking : {S : Type 0} → (S → Entry → S) → List ℕ → Rules (List ℕ) S
@@ -67,67 +58,44 @@ passing folded rule aad = record {
   aad = aad;
 }
 
-module _ {S : Type 0} (folded : S → Entry → S) (aad input : List ℕ) (old new : GateState (List ℕ) S) where
-  pub asked : (counts : Counts) → old.offset ≡ 0 → Whole (asking folded aad) old new input counts
-      → IsAsked aad input old.told new.told counts
-  asked counts start w = record {
-    steps = w.steps;
-    course = subst (λ (n : ℕ). Course usual always aad n input w.steps []) start w.course;
-    records = w.made.told ∙ told_records old.told (questions_of always aad w.steps);
-    passed = w.passed;
-    refused = w.refused;
+module _ {S : Type 0} (folded : S → Entry → S) (aad input : List ℕ) (old new : GateState (List ℕ) S) {E : Type 0} (ends : E → Bool) (start : old.offset ≡ 0) (is : old.left ≡ Some input) where
+  pub asked : (counts : Counts) → Ran ends false (asking folded aad) old new (Ok counts) → IsAsked aad input old.told new.told counts
+  asked counts a =
+      let m = ran.whole ends false (asking folded aad) old new (Ok counts) input a is in
+      record {
+        steps = m.steps;
+        course = whole_course usual always aad old.offset input start m.steps m.rest m.counted.2 m.run;
+        records = m.made.told ∙ told_records old.told (questions_of always aad m.steps);
+        passed = m.counted.0;
+        refused = m.counted.1;
+      }
+
+  pub asked_in_part : (fault : GateFault E) → Ran ends false (asking folded aad) old new (Err fault) → IsAskedInPart aad input old.told new.told
+  asked_in_part fault a = record {
+    steps = a.run.done ++ at_hand a.run.ending;
+    more = taken_at a.run.ending ++ a.run.rest;
+    course = subst (λ (n : ℕ). Course usual always aad n input (a.run.done ++ at_hand a.run.ending) (taken_at a.run.ending ++ a.run.rest)) start
+        (ran.course ends false (asking folded aad) old new (Err fault) input a is);
+    front = asked_in always aad a.run;
+    is_front = ran.front_within (questions_of always aad a.run.done) (asked_at always aad a.run.ending) (questions_of always aad (at_hand a.run.ending)) [] _
+        (flat_map-append (λ s. asked_of always aad s.finding) a.run.done (at_hand a.run.ending)
+        ∙ ap (λ (qs : List Question). questions_of always aad a.run.done ++ qs) (sym (append-nil (questions_of always aad (at_hand a.run.ending)))))
+        (ran.asked_first ends false (asking folded aad) old new (Err fault) input a is a.run.ending a.ends_at);
+    records = a.asked ∙ told_records old.told (asked_in always aad a.run);
   }
 
-  pub asked_in_part : {E : Type 0} (ends : E → Bool) (fault : GateFault E) → old.offset ≡ 0
-      → Outcome ends (asking folded aad) old new input (Err fault)
-      → IsAskedInPart aad input old.told new.told
-  asked_in_part ends (gating.Decode e) start w = record {
-    steps = w.steps;
-    more = w.more;
-    course = subst (λ (n : ℕ). Course usual always aad n input w.steps w.more) start w.course;
-    front = questions_of always aad w.steps;
-    is_front = whole_front (questions_of always aad w.steps);
-    records = w.made.told ∙ told_records old.told (questions_of always aad w.steps);
-  }
-  asked_in_part ends gating.Write start w = record {
-    steps = w.done ++ w.last ∷ [];
-    more = w.more;
-    course = subst (λ (n : ℕ). Course usual always aad n input (w.done ++ w.last ∷ []) w.more) start w.course;
-    front = questions_of always aad (w.done ++ w.last ∷ []);
-    is_front = whole_front (questions_of always aad (w.done ++ w.last ∷ []));
-    records = w.told ∙ told_records old.told (questions_of always aad (w.done ++ w.last ∷ []));
-  }
-  asked_in_part ends gating.Memory start w = record {
-    steps = w.done ++ w.last;
-    more = w.more;
-    course = subst (λ (n : ℕ). Course usual always aad n input (w.done ++ w.last) w.more) start w.course;
-    front = questions_of always aad w.done ++ w.asked;
-    is_front = record {
-      more = w.asked_front.more;
-      whole = flat_map-append (λ s. asked_of always aad s.finding) w.done w.last
-          ∙ (ap (λ (qs : List Question). questions_of always aad w.done ++ qs) w.asked_front.whole
-          ∙ sym (append_assoc (questions_of always aad w.done) w.asked w.asked_front.more));
-    };
-    records = w.told ∙ told_records old.told (questions_of always aad w.done ++ w.asked);
-  }
-
-module _ {S : Type 0} (folded : S → Entry → S) (yes : Question → Bool) (aad input : List ℕ)
-    (old new : GateState (Unit {0}) S) where
-  pub passed_by : (output : List ℕ) (counts : Counts) → old.offset ≡ 0 → old.written ≡ Some []
-      → new.written ≡ Some output → Whole (passing folded yes aad) old new input counts
-      → IsPassedBy yes aad input output counts
-  passed_by output counts start none out w = record {
-    steps = w.steps;
-    course = subst (λ (n : ℕ). Course usual yes aad n input w.steps []) start w.course;
-    output_is = written none out w.made.written;
-    passed = w.passed;
-    refused = w.refused;
-  }
-    where
-      written : {xs : List ℕ} → old.written ≡ Some [] → new.written ≡ Some output
-          → Appends old.written new.written xs → output ≡ xs
-      written {xs} a b p = let q = subst (λ (z : Option (List ℕ)). Appends z new.written xs) a p in
-          let r = subst (λ (z : Option (List ℕ)). Appends (Some []) z xs) b q in r
+pub passed_by : {S : Type 0} (folded : S → Entry → S) (yes : Question → Bool) (aad input : List ℕ) (old new : GateState (Unit {0}) S) {E : Type 0} (ends : E → Bool) → old.offset ≡ 0 → old.left ≡ Some input
+    → (output : List ℕ) (counts : Counts) → old.written ≡ Some [] → new.written ≡ Some output → Ran ends false (passing folded yes aad) old new (Ok counts)
+    → IsPassedBy yes aad input output counts
+passed_by folded yes aad input old new ends start is output counts none out a =
+    let m = ran.whole ends false (passing folded yes aad) old new (Ok counts) input a is in
+    record {
+      steps = m.steps;
+      course = whole_course usual yes aad old.offset input start m.steps m.rest m.counted.2 m.run;
+      output_is = appended none out m.made.written;
+      passed = m.counted.0;
+      refused = m.counted.1;
+    }
 
 -- what passes by these records
 pub passed_of : (accepted aad input output : List ℕ) (keys : List (List ℕ)) (counts : Counts)
@@ -158,14 +126,13 @@ all_pass : (p : Bool) (n : ℕ) → cond {A = ℕ} (not p) 1 0 + n ≡ 0 → (p 
 all_pass true n e = let h : 0 + n ≡ 0 = e in (refl, omega (arith, h))
 all_pass false n e = let h : 1 + n ≡ 0 = e in absurd (let k : ⊥ = omega (arith, h) in k)
 
--- under limits that exclude what isn't already as it would be written
-module _ (limits : Bounds) (says : Question → Bool) (aad : List ℕ) (exact : ExcludesInexact limits) where
+-- under limits of a strict gate
+module _ (limits : Bounds) (says : Question → Bool) (aad : List ℕ) (strict : limits.strict ≡ true) where
   as_received : (f : Finding) (b : List ℕ) (t : Tree) → Finds limits b t f → passes says aad f ≡ true
       → written_of says aad f ≡ b
   as_received (judged m) b t finds p =
-      ap (λ (z : Bool). cond z (text_of (judged m)) []) p ∙ sym (exact b m finds.1)
+      ap (λ (z : Bool). cond z (text_of (judged m)) []) p ∙ sym (finds.1 strict)
   as_received (barred r) b t finds p = let h : false ≡ true = p in cc
-  as_received (excluded m r) b t finds p = let h : false ≡ true = p in cc
 
   pub all_received : (n : ℕ) (ss : List Step) (at : ℕ) (b : List ℕ) → Steps limits says aad n ss
       → SequenceWithin limits.nesting at b (map (λ s. s.item) ss) []
@@ -186,7 +153,7 @@ module _ (limits : Bounds) (says : Question → Bool) (aad : List ℕ) (exact : 
 none_of : (n : ℕ) → 0 ≡ cond {A = ℕ} (nat_eq n 0) 0 1 → n ≡ 0
 none_of n e = grind (arith, nat_tests, e)
 
-all_written : (limits : Bounds) (says : Question → Bool) (aad : List ℕ) (old new : Devices) (done : List Step) (g : Ending) (rest : List ℕ) (flushed : Bool) → ExcludesInexact limits
+all_written : (limits : Bounds) (says : Question → Bool) (aad : List ℕ) (old new : Devices) (done : List Step) (g : Ending InputFault) (rest : List ℕ) (flushed : Bool) → limits.strict ≡ true
     → (s : Shows limits says aad old new (record { done = done; ending = g; rest = rest }) flushed)
     → 0 ≡ status_at (last_of (result_of says aad (record { done = done; ending = g; rest = rest })) flushed) → Appends old.written new.written s.input
 all_written limits says aad old new done finished rest true exact s none =
@@ -204,7 +171,7 @@ all_written limits says aad old new done (within next (writing part)) rest flush
 all_written limits says aad old new done (within next noting) rest flushed exact s none = absurd (let k : ⊥ = omega (arith, none) in k)
 
 -- with the status 0 a strict run wrote all that it read
-pub handed_on : {limits : Bounds} {says : List KeyFields → Question → Bool} {keys aad : List ℕ} {old new : Devices} {status : ℕ} {Told : List Notice → Type 0} → ExcludesInexact limits
+pub handed_on : {limits : Bounds} {says : List KeyFields → Question → Bool} {keys aad : List ℕ} {old new : Devices} {status : ℕ} {Told : List Notice → Type 0} → limits.strict ≡ true
     → EndsTold limits says (Some keys) (Some aad) old new status Told → status ≡ 0 → IsHandedOn old new
 handed_on {status = status} exact (not_begun why n st same told) none input is = absurd (not_few why status st (omega (arith, none)))
 handed_on {limits = limits} {says = says} {old = old} {new = new} exact (after_run b d k a ks has r) none input is =

@@ -1,18 +1,39 @@
 -- What a fault of the gate leaves in a report and in a writer.
-use Rattle.std.specs.Prelude.{◌≡◌, ℕ, List, ◌∷◌, ◌++◌, length, Option, Bool}
+use Rattle.std.specs.Prelude.{◌≡◌, ℕ, List, ◌∷◌, ◌++◌, length, Option, Bool, Result, Err}
 use Rattle.std.specs.Io.KnownBytes.{Appends}
 use Rattle.cose_gate.specs.Anew.{bytes_of, AreEntries}
 use Rattle.cose_gate.specs.Asked.{IsFront}
+use Rattle.cose_gate.specs.Counts.{Counts}
 use Rattle.cose_gate.specs.Entry.{Entry}
 use Rattle.cose_gate.specs.Findings.{usual}
 use Rattle.cose_gate.specs.Front.{HoldsOne}
+use Rattle.cose_gate.specs.GateFault.{GateFault}
+use Rattle.cose_gate.specs.GateFault.TheVariants.{Decode, Write, Memory}
+use Rattle.cose_gate.specs.Misshapen.{NamesShapes}
+use Rattle.cose_gate.specs.Reading.{IsNoMemory}
 use Rattle.cose_gate.specs.Questions.{Question}
-use Rattle.cose_gate.specs.Run.{Step, text_of, output_of}
+use Rattle.cose_gate.specs.Run.{Step, text_of, output_of, entries_of}
 
--- an entry for each of these steps is after the others
+-- P holds if the writer failed, and if out of memory
+abbrev pub IfWrite : {E : Type 0} → Result Counts (GateFault E) → Type 0 → Type 0
+IfWrite (Err Write) P = P
+IfWrite r P = Unit {0}
+
+abbrev pub IfMemory : {E : Type 0} → Result Counts (GateFault E) → Type 0 → Type 0
+IfMemory (Err Memory) P = P
+IfMemory r P = Unit {0}
+
+-- a fault of decoding is never being out of memory
+abbrev pub HoldsNoMemory : {E : Type 0} → GateFault E → Type 0
+HoldsNoMemory (Decode e) = IsNoMemory e
+HoldsNoMemory fault = Unit {0}
+
+-- an entry for each of these steps is after the others; the shapes in them name faults of the
+-- values
 abbrev pub Noted : (Question → Bool) → List ℕ → List Step → List Entry → List Entry → Type 0
 Noted allows aad ss old new =
-    (entries : List Entry) × AreEntries usual allows aad ss entries × (new ≡ old ++ entries)
+    (made : List Step) × NamesShapes usual made × AreEntries allows aad ss (entries_of made)
+    × (new ≡ old ++ entries_of made)
 
 -- the output of the first steps was written, and then a beginning of the next message
 abbrev pub Torn : (Question → Bool) → List ℕ → List Step → Option (List ℕ) → Option (List ℕ)

@@ -1,6 +1,7 @@
 -- What is in the buffers after a run that went to its end.
 use Rattle.std.specs.Prelude.{◌≡◌, ℕ, ◌<◌, List, ◌++◌, length, drop, flat_map, Bool}
-use Rattle.cose_gate_records.specs.Calls.{RunsBy, within}
+use Rattle.cose_gate_records.specs.Calls.{RunsBy}
+use Rattle.cose_gate_records.specs.Findings.{within}
 use Rattle.cose_gate_records.specs.Framing.{framed}
 
 -- in front of what was in the buffer there are n bytes, the output of a run with the status 0 or 1

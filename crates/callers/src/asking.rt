@@ -15,7 +15,6 @@ ghost use Rattle.callers.specs.Sides.{known_of, asked_of};
 
 use crate::gatings::Gating;
 use crate::judging::KeyIds;
-use cose_gate::laws::output_is_received;
 use cose_gate::{
     Accepted, Asker, Counts, Decoder, End, GateFault, Limits, Mem, Nowhere, Read, Silent, Terms,
     Write, gate, run_judged, run_over, run_with,
@@ -189,7 +188,6 @@ pub fn run_exact<R: Read, W: Write, E: Write>(
     ensures line { result ≡ 3 → E.failed err.new ≡ E.failed err.old
         → NamesWrongKeys (E.written err.old) (E.written err.new) }
 {
-    output_is_received();
     let terms = Terms {
         limits,
         strict: true,

@@ -1,8 +1,9 @@
 //! The calls over buffers, by a caller who wants the output and the lines of a run that went to its
 //! end. `cose_gate_records` is the one crate that it names.
 ghost use Rattle.std.specs.Prelude.{◌≡◌, ◌<◌, IfSome, MatchOption, None};
-ghost use Rattle.cose_gate_records.specs.Calls.{within, buffers, Asks, Checks, Passes};
+ghost use Rattle.cose_gate_records.specs.Calls.{buffers, Asks, Checks, Passes};
 ghost use Rattle.cose_gate_records.specs.Calls.{Runs, TellsIn};
+ghost use Rattle.cose_gate_records.specs.Findings.{within};
 ghost use Rattle.cose_gate_records.specs.declared.answer.Answer.{Answer};
 ghost use Rattle.callers.specs.Placed.{IsAccepted, IsIn};
 

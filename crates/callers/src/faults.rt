@@ -6,7 +6,6 @@ ghost use Rattle.std.specs.Io.KnownBytes.{Appends};
 ghost use Rattle.cose_gate.specs.Asked.{IsFront};
 ghost use Rattle.cose_gate.specs.Findings.{usual, IsJudged};
 ghost use Rattle.cose_gate.specs.Front.{Reads};
-ghost use Rattle.cose_gate.specs.Gate.{HoldsNoMemory, IfWrite, IfMemory};
 ghost use Rattle.cose_gate.specs.GateFault.TheVariants as fault;
 ghost use Rattle.cose_gate.specs.Outcome.{writer_failures};
 ghost use Rattle.cose_gate.specs.Questions.{MessageFields};
@@ -17,6 +16,7 @@ ghost use Rattle.cose_gate.specs.declared.fault.StreamFault.TheVariants.{Decode}
 ghost use Rattle.cose_gate.specs.Streaming.{Answered, IsLongFor, Tells, Unstreamed};
 ghost use Rattle.cose_gate.specs.Tree.{Tree};
 ghost use Rattle.callers.specs.Faults.{Noted, Taken, Torn, WholeTexts};
+ghost use Rattle.callers.specs.Faults.{HoldsNoMemory, IfWrite, IfMemory};
 ghost use Rattle.callers.specs.Judging.{allows};
 ghost use Rattle.callers.specs.Sides.{known_of, asked_of};
 

@@ -1,9 +1,9 @@
 //! Relays by the strict gate, and within limits of the caller's. `cose_gate` is the one crate that
 //! it names.
-ghost use Rattle.std.specs.Prelude.{◌≡◌, ℕ, List, IfOk};
-ghost use Rattle.cose_gate.specs.CodeLimits.{nesting_of, layers_of};
-ghost use Rattle.cose_gate.specs.Findings.{plain, only_exact, usual_exact};
+ghost use Rattle.std.specs.Prelude.{◌≡◌, ℕ, List, IfOk, false, true};
+ghost use Rattle.cose_gate.specs.Findings.{usual_exact};
 ghost use Rattle.cose_gate.specs.Run.{Step, Run};
+ghost use Rattle.cose_gate.specs.Terms.{limits_by};
 ghost use Rattle.callers.specs.Gatings.{limits_of};
 ghost use Rattle.callers.specs.Judging.{RelayedRun, allows};
 ghost use Rattle.callers.specs.Sides.{known_of};
@@ -55,8 +55,7 @@ pub fn relay_with(
     tally: &mut Tally,
 ) -> Result<(Vec<u8>, Counts), GateFault<End>>
     ensures run { (ss : List Step) (rest : List ℕ)
-        → Run (plain (nesting_of limits) (layers_of limits)) (allows (known_of judge.old)) aad.now
-        0 input.now ss rest
+        → Run (limits_by limits false) (allows (known_of judge.old)) aad.now 0 input.now ss rest
         → IfOk result (λ r. RelayedRun (known_of judge.old) aad.now ss rest r.0.items r.1) }
     ensures known { known_of judge.new ≡ known_of judge.old }
 {
@@ -78,8 +77,7 @@ pub fn relay_strict_with(
     tally: &mut Tally,
 ) -> Result<(Vec<u8>, Counts), GateFault<End>>
     ensures run { (ss : List Step) (rest : List ℕ)
-        → Run (only_exact (nesting_of limits) (layers_of limits)) (allows (known_of judge.old))
-        aad.now 0 input.now ss rest
+        → Run (limits_by limits true) (allows (known_of judge.old)) aad.now 0 input.now ss rest
         → IfOk result (λ r. RelayedRun (known_of judge.old) aad.now ss rest r.0.items r.1) }
     ensures known { known_of judge.new ≡ known_of judge.old }
 {

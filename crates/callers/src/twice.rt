@@ -8,7 +8,7 @@ use crate::gatings::{Gating, relay_by, relay_strict};
 use crate::judging::KeyIds;
 use crate::relaying::relay;
 use crate::tally::Tally;
-use cose_gate::laws::{every_input_run, output_is_fixed, wider_limits_admit};
+use cose_gate::laws::{every_input_run, output_is_fixed};
 use cose_gate::{Counts, End, GateFault};
 use std::alloc::Global;
 
@@ -60,7 +60,6 @@ pub fn relay_then_strictly(
     bytes_below(input);
     every_input_run();
     output_is_fixed();
-    wider_limits_admit();
     let (once, first) = relay(alloc, input, aad, judge, tally)?;
     let (again, second) = relay_strict(alloc, &once, aad, judge, tally)?;
     Ok(((once, first), (again, second)))
@@ -82,7 +81,6 @@ pub fn strictly_then_relay(
     bytes_below(input);
     every_input_run();
     output_is_fixed();
-    wider_limits_admit();
     let (once, first) = relay_strict(alloc, input, aad, judge, tally)?;
     let (again, second) = relay(alloc, &once, aad, judge, tally)?;
     Ok(((once, first), (again, second)))
@@ -109,7 +107,6 @@ pub fn relay_wider(
     bytes_below(input);
     every_input_run();
     output_is_fixed();
-    wider_limits_admit();
     let (once, first) = relay_by(alloc, gating, input, aad, judge, tally)?;
     let (again, second) = relay_by(alloc, wider, &once, aad, judge, tally)?;
     Ok(((once, first), (again, second)))

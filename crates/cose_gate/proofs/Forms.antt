@@ -14,7 +14,8 @@ use Rattle.cose_gate_core.specs.WrongMaced.{WrongMac0, no_array0, in_parts0, in_
 use Rattle.cose_gate_core.specs.WrongMaced as maced
 use Rattle.coset_base.specs.Structure.{structure}
 use Rattle.cose_gate_core.specs.Questions.{Question, questions, alone}
-use Rattle.cose_gate_core.specs.Findings.{Bounds, IsMisshapen, IsJudged, WrongMessage}
+use Rattle.cose_gate_core.specs.Findings.{Bounds, IsJudged}
+use Rattle.cose_gate_core.specs.Misshapen.{IsMisshapen, WrongMessage}
 use Rattle.cose_gate.specs.declared.form.Form.{Form}
 use Rattle.cose_gate.specs.declared.form.Form.TheVariants as form
 use Rattle.cose_gate.specs.Forms.{tag_number, kind_of, context_of, message_of, received_of}

@@ -17,7 +17,8 @@ use Rattle.ciborium.proofs.TagLemmas.{bytes_meant, in_tag}
 use Rattle.coset_labels.specs.Faults.{CoseFault, unexpected}
 use Rattle.cose_gate_core.specs.PartsWritten.{optional_tree}
 use Rattle.cose_gate_core.specs.WrongParts.{in_content}
-use Rattle.cose_gate_core.specs.Findings.{Bounds, IsMisshapen}
+use Rattle.cose_gate_core.specs.Findings.{Bounds}
+use Rattle.cose_gate_core.specs.Misshapen.{IsMisshapen}
 use Rattle.cose_gate.specs.declared.fault.StreamFault.{StreamFault}
 use Rattle.cose_gate.specs.declared.form.Form.{Form}
 use Rattle.cose_gate.specs.Forms.{tag_number}

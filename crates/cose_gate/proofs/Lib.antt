@@ -2,7 +2,6 @@ pub mod Copied
 pub mod CutOff
 pub mod Elements
 pub mod Exactly
-pub mod Facts
 pub mod Far
 pub mod Faults
 pub mod Fed

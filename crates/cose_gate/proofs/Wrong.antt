@@ -22,7 +22,8 @@ use Rattle.ciborium.proofs.ChildLemmas.{all_count, title_no_break, begun_no_brea
 use Rattle.coset_labels.specs.Faults.{CoseFault, unexpected}
 use Rattle.coset_headers.specs.Wrong.{WrongProtected, WrongHeader}
 use Rattle.cose_gate_core.specs.WrongParts.{in_protected, in_unprotected}
-use Rattle.cose_gate_core.specs.Findings.{Bounds, IsMisshapen}
+use Rattle.cose_gate_core.specs.Findings.{Bounds}
+use Rattle.cose_gate_core.specs.Misshapen.{IsMisshapen}
 use Rattle.cose_gate.specs.declared.fault.StreamFault.{StreamFault}
 use Rattle.cose_gate.specs.declared.form.Form.{Form}
 use Rattle.cose_gate.specs.Forms.{tag_number}

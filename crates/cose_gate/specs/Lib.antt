@@ -6,7 +6,9 @@ pub mod Streaming
 pub use Rattle.cose_gate_core.specs.Asked
 pub use Rattle.cose_gate_core.specs.Calls
 pub use Rattle.cose_gate_core.specs.Findings
+pub use Rattle.cose_gate_core.specs.GateRun
 pub use Rattle.cose_gate_core.specs.Lent
+pub use Rattle.cose_gate_core.specs.Misshapen
 pub use Rattle.cose_gate_core.specs.Outcome
 pub use Rattle.cose_gate_core.specs.Passing
 pub use Rattle.cose_gate_core.specs.Questions

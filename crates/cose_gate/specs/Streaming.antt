@@ -22,7 +22,8 @@ use Rattle.coset_labels.specs.declared.error.CoseError.{CoseError}
 use Rattle.coset_labels.specs.declared.error.CoseError.TheVariants as cose
 use Rattle.cose_gate_core.specs.Questions.{Question, MessageFields, questions, payload_of}
 use Rattle.cose_gate_core.specs.Asked.{first_no, folded_over}
-use Rattle.cose_gate_core.specs.Findings.{Bounds, usual, IsJudged, IsMisshapen}
+use Rattle.cose_gate_core.specs.Findings.{Bounds, usual, IsJudged}
+use Rattle.cose_gate_core.specs.Misshapen.{IsMisshapen}
 use Rattle.cose_gate.specs.Stated.{IsSingleTag, IsSingle, IsFour, Stated, InPieces, before_payload}
 use Rattle.cose_gate.specs.declared.checking.Place.{Place}
 use Rattle.cose_gate.specs.declared.fault.StreamFault.{StreamFault}

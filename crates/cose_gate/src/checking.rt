@@ -1,9 +1,8 @@
 //! The streaming check.
-ghost use Rattle.std.specs.Prelude.{◌≡◌, ◌<◌, IfOk, IfErr, OnErr, length};
+ghost use Rattle.std.specs.Prelude.{◌≡◌, ◌<◌, IfOk, IfErr, OnErr, length, false};
 ghost use Rattle.ciborium_ll.specs.Seen.{Takes};
 ghost use Rattle.ciborium_ll.specs.Views.{left_of, offset_of, seen};
-ghost use Rattle.coset_labels.specs.Limits.{nesting_of, layers_of};
-ghost use Rattle.cose_gate_core.specs.Findings.{plain};
+ghost use Rattle.cose_gate_core.specs.Terms.{limits_by};
 ghost use Rattle.cose_gate.specs.Streaming.{Checked, CheckedBy, CopiedBy, CopiedPart, WritesAll};
 ghost use Rattle.cose_gate.specs.Streaming.{Unstreamed, UnstreamedBy, IsFarFor, NamesWhy, Steady};
 ghost use Rattle.cose_gate.specs.Streaming.{AnswersStated, AnswersStatedBy, IsPlaced};
@@ -85,13 +84,13 @@ pub fn stream_check_with<R: Read, J: Judge>(
     // A judged message of a stated length was taken whole; the answer is the judge's to its
     // questions, and it was told of them alone.
     ensures ok { IfOk result (λ yes. Takes (seen R.Read decoder.old) (seen R.Read decoder.new)
-        (CheckedBy (plain (nesting_of limits) (layers_of limits)) J.decided
+        (CheckedBy (limits_by limits false) J.decided
         (J.yes (J.who judge.old)) aad.now (J.told judge.old) (J.told judge.new)
         (length buffer.old) (J.pieces judge.new) yes)) }
 
     // Each fault says what is true of the bytes, and the judge was told nothing.
     ensures err { IfErr result (NamesWhy R.ends
-        (UnstreamedBy (plain (nesting_of limits) (layers_of limits))) (length buffer.old)
+        (UnstreamedBy (limits_by limits false)) (length buffer.old)
         (seen R.Read decoder.old)) }
     ensures told { OnErr result (J.told judge.new ≡ J.told judge.old) }
     ensures who { J.who judge.new ≡ J.who judge.old }
@@ -103,7 +102,7 @@ pub fn stream_check_with<R: Read, J: Judge>(
 
     // If such a message is in front, the result is Ok or a fault of memory, of the reader, or of an
     // offset that grows too long.
-    ensures exactly { AnswersStatedBy (plain (nesting_of limits) (layers_of limits)) R.ends
+    ensures exactly { AnswersStatedBy (limits_by limits false) R.ends
         (length buffer.old) (seen R.Read decoder.old) result }
 {
     match stream_check_into(alloc, limits, decoder, buffer, aad, judge, &mut Nowhere) {
@@ -154,7 +153,7 @@ pub fn stream_check_into<R: Read, J: Judge, W: Write>(
     // A judged message of a stated length was taken whole, and its payload written, if the writer
     // didn't fail; the answer is the judge's to its questions, and it was told of them alone.
     ensures ok { IfOk result (λ s. Takes (seen R.Read decoder.old) (seen R.Read decoder.new)
-        (CopiedBy (plain (nesting_of limits) (layers_of limits)) J.decided
+        (CopiedBy (limits_by limits false) J.decided
         (J.yes (J.who judge.old)) aad.now (J.told judge.old) (J.told judge.new)
         (length buffer.old) (J.pieces judge.new)
         (WritesAll W.Write out.old out.new s.written) s.yes)) }
@@ -164,7 +163,7 @@ pub fn stream_check_into<R: Read, J: Judge, W: Write>(
 
     // Each fault says what is true of the bytes, and the judge was told nothing.
     ensures err { IfErr result (NamesWhy R.ends
-        (UnstreamedBy (plain (nesting_of limits) (layers_of limits))) (length buffer.old)
+        (UnstreamedBy (limits_by limits false)) (length buffer.old)
         (seen R.Read decoder.old)) }
     ensures told { OnErr result (J.told judge.new ≡ J.told judge.old) }
     ensures who { J.who judge.new ≡ J.who judge.old }
@@ -173,7 +172,7 @@ pub fn stream_check_into<R: Read, J: Judge, W: Write>(
 
     // Whatever the result, nothing was written but a beginning of the payload, once, up to its end
     // or to one failure of the writer.
-    ensures part { CopiedPart (plain (nesting_of limits) (layers_of limits)) W.Write out.old out.new
+    ensures part { CopiedPart (limits_by limits false) W.Write out.old out.new
         (left_of R.left decoder.old) }
     ensures lent { W.handle out.new ≡ W.handle out.old }
 {

@@ -1,9 +1,9 @@
 //! The gate.
-ghost use Rattle.std.specs.Prelude.{◌≡◌, None};
+ghost use Rattle.std.specs.Prelude.{◌≡◌, None, true, false};
 ghost use Rattle.ciborium_ll.specs.Views.{waiting_of};
-ghost use Rattle.cose_gate_core.specs.Calls.{within, exact_within};
 ghost use Rattle.cose_gate_core.specs.Findings.{usual, usual_exact};
-ghost use Rattle.cose_gate.specs.Gate.{Gates};
+ghost use Rattle.cose_gate_core.specs.Terms.{limits_by};
+ghost use Rattle.cose_gate.specs.Gate.{Gates, call_of};
 
 use ciborium_ll::{Decoder, Read, Write};
 use cose_gate_core::{Counts, GateFault, Judge, Limits, Report, Terms, gate_by};
@@ -20,9 +20,10 @@ use std::alloc::Global;
 ///
 /// It ends with `Ok` only if nothing is left after an item: the offset has grown by all bytes then,
 /// and a reader that tells what is to come tells that nothing is. No header waits after any result.
-/// The contract is the record `Gates`, a field for each fact. What its field `ran` says holds of
-/// the bytes that were there, also over a reader that doesn't tell which are to come; if they are
-/// known, it holds of those, and the other fields say it fact by fact over the run of the input.
+/// The contract is the record `Gates`, a field for each fact. What its field `ran` says of one run
+/// holds of the bytes that were there, also over a reader that doesn't tell which are to come; if
+/// they are known, it holds of those, and the law `ran_is_run` compares it with the run of the
+/// input.
 ///
 /// # Errors
 /// `Decode` if no readable item begins: all items before it were asked about, noted and written. Of
@@ -43,8 +44,8 @@ pub fn gate<R: Read, W: Write, P: Report, J: Judge>(
     aad: &[u8],
     judge: &mut J,
 ) -> Result<Counts, GateFault<R::Error>>
-    ensures { Gates R.Read W.Write P.Report J.Judge usual aad.now
-        decoder.old out.old report.old judge.old decoder.new out.new report.new judge.new result }
+    ensures { Gates (call_of R.Read W.Write P.Report J.Judge false usual aad.now
+        decoder.old out.old report.old judge.old decoder.new out.new report.new judge.new) result }
 {
     gate_with(alloc, Limits::default(), decoder, out, report, aad, judge)
 }
@@ -61,14 +62,14 @@ pub fn gate_with<R: Read, W: Write, P: Report, J: Judge>(
     aad: &[u8],
     judge: &mut J,
 ) -> Result<Counts, GateFault<R::Error>>
-    ensures { Gates R.Read W.Write P.Report J.Judge (within limits) aad.now
-        decoder.old out.old report.old judge.old decoder.new out.new report.new judge.new result }
+    ensures { Gates (call_of R.Read W.Write P.Report J.Judge false (limits_by limits false) aad.now
+        decoder.old out.old report.old judge.old decoder.new out.new report.new judge.new) result }
 {
     let terms = Terms {
         limits,
         strict: false,
     };
-    gate_by(alloc, terms, decoder, out, report, aad, judge)
+    gate_by(alloc, terms, false, decoder, out, report, aad, judge)
 }
 
 /// As `gate`, and strict: a message passes only if its item is already what would be written for it
@@ -85,8 +86,8 @@ pub fn gate_strict<R: Read, W: Write, P: Report, J: Judge>(
     judge: &mut J,
 ) -> Result<Counts, GateFault<R::Error>>
     requires { waiting_of decoder.old ≡ None }
-    ensures { Gates R.Read W.Write P.Report J.Judge usual_exact aad.now
-        decoder.old out.old report.old judge.old decoder.new out.new report.new judge.new result }
+    ensures { Gates (call_of R.Read W.Write P.Report J.Judge false usual_exact aad.now
+        decoder.old out.old report.old judge.old decoder.new out.new report.new judge.new) result }
 {
     gate_strict_with(alloc, Limits::default(), decoder, out, report, aad, judge)
 }
@@ -102,12 +103,12 @@ pub fn gate_strict_with<R: Read, W: Write, P: Report, J: Judge>(
     judge: &mut J,
 ) -> Result<Counts, GateFault<R::Error>>
     requires { waiting_of decoder.old ≡ None }
-    ensures { Gates R.Read W.Write P.Report J.Judge (exact_within limits) aad.now
-        decoder.old out.old report.old judge.old decoder.new out.new report.new judge.new result }
+    ensures { Gates (call_of R.Read W.Write P.Report J.Judge false (limits_by limits true) aad.now
+        decoder.old out.old report.old judge.old decoder.new out.new report.new judge.new) result }
 {
     let terms = Terms {
         limits,
         strict: true,
     };
-    gate_by(alloc, terms, decoder, out, report, aad, judge)
+    gate_by(alloc, terms, false, decoder, out, report, aad, judge)
 }

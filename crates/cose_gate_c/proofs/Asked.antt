@@ -1,8 +1,8 @@
 -- What the clauses of the judge that keeps a question say of a message in memory.
-use Rattle.std.proofs.Common.{◌≡◌, ℕ, List, length, Some, Bool, inl, inr, ap, subst, ◌∙◌}
+use Rattle.std.proofs.Common.{◌≡◌, ℕ, List, length, Some, Bool, inl, inr, ap, subst, ◌∙◌, false}
 use Rattle.std.specs.Prelude.{◌⊎◌}
 use Rattle.coset_labels.specs.Limits.{AreLimits}
-use Rattle.cose_gate.specs.Findings.{Bounds, plain}
+use Rattle.cose_gate.specs.Findings.{Bounds, within}
 use Rattle.cose_gate.specs.Questions.{Question}
 use Rattle.cose_gate.specs.Streaming.{refused, IsBegun}
 use Rattle.cose_gate_c.proofs.Covered.{covered_ends}
@@ -41,7 +41,7 @@ module _ (limits : Bounds) (allows : Question → Bool) (aad input old new : Lis
 
 -- the limits are those that the caller chose
 pub ran_within : (nesting layers n k : ℕ) (aad input old new : List ℕ) (a : StreamQuestion) → AreLimits nesting layers × (n ≡ nesting) × (k ≡ layers)
-    → TellsFront (plain n k) aad input old new a → StreamAsks nesting layers aad input old new a
+    → TellsFront (within n k false) aad input old new a → StreamAsks nesting layers aad input old new a
 ran_within nesting layers n k aad input old new a chosen c =
-    let levels = subst (λ (z : ℕ). TellsFront (plain z k) aad input old new a) chosen.1 c in
-    ran chosen.0 (subst (λ (z : ℕ). TellsFront (plain nesting z) aad input old new a) chosen.2 levels)
+    let levels = subst (λ (z : ℕ). TellsFront (within z k false) aad input old new a) chosen.1 c in
+    ran chosen.0 (subst (λ (z : ℕ). TellsFront (within nesting z false) aad input old new a) chosen.2 levels)

@@ -8,7 +8,7 @@ use Rattle.coset_labels.specs.Reading.{HasItem}
 use Rattle.cose_gate.specs.Asked.{first_no, folded_over}
 use Rattle.cose_gate.specs.Damage.{end, deep, syntax, semantic}
 use Rattle.cose_gate.specs.Faults.{fault_of}
-use Rattle.cose_gate.specs.Findings.{Bounds, plain, IsJudged}
+use Rattle.cose_gate.specs.Findings.{Bounds, IsJudged, within}
 use Rattle.cose_gate.specs.Front.{Reads}
 use Rattle.cose_gate.specs.HmacJudges.{says_yes}
 use Rattle.cose_gate.specs.KeyFields.{KeyFields}
@@ -228,8 +228,8 @@ module _ (limits : Bounds) (input : List ℕ) (fits : length input < 2 ^ 63) (Is
 
 -- the limits are those that the caller chose
 module _ (nesting layers n k : ℕ) (keys aad input : List ℕ) (ks : List KeyFields) (a : StreamAnswer) where
-  pub ran_within : AreLimits nesting layers × (n ≡ nesting) × (k ≡ layers) → HasItem HasKeySet keys ks → ChecksFront (plain n k) (says_yes ks) aad input a
+  pub ran_within : AreLimits nesting layers × (n ≡ nesting) × (k ≡ layers) → HasItem HasKeySet keys ks → ChecksFront (within n k false) (says_yes ks) aad input a
       → StreamChecks nesting layers keys aad input a
   ran_within chosen has c =
-      let levels = subst (λ (z : ℕ). ChecksFront (plain z k) (says_yes ks) aad input a) chosen.1 c in
-      ran ks chosen.0 has (subst (λ (z : ℕ). ChecksFront (plain nesting z) (says_yes ks) aad input a) chosen.2 levels)
+      let levels = subst (λ (z : ℕ). ChecksFront (within z k false) (says_yes ks) aad input a) chosen.1 c in
+      ran ks chosen.0 has (subst (λ (z : ℕ). ChecksFront (within nesting z false) (says_yes ks) aad input a) chosen.2 levels)

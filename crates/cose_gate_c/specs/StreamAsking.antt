@@ -1,7 +1,7 @@
 -- What the streaming call for a question over memory returns.
-use Rattle.std.specs.Prelude.{◌≡◌, ℕ, ◌<◌, ◌≤◌, ◌⊎◌, List, ◌++◌, length, drop}
+use Rattle.std.specs.Prelude.{◌≡◌, ℕ, ◌<◌, ◌≤◌, ◌⊎◌, List, ◌++◌, length, drop, false}
 use Rattle.coset_labels.specs.Limits.{AreLimits}
-use Rattle.cose_gate.specs.Findings.{Bounds, plain}
+use Rattle.cose_gate.specs.Findings.{Bounds, within}
 use Rattle.cose_gate.specs.Questions.{Question}
 use Rattle.cose_gate.specs.RecordFraming.{framed}
 use Rattle.cose_gate.specs.Records.{record_of}
@@ -51,5 +51,5 @@ pub data StreamAsks (nesting layers : ℕ) (aad input old new : List ℕ) (answe
     : Type 0 where
   no_limits : (AreLimits nesting layers → ⊥) → IsUnasked 2 0 answer → new ≡ old
       → StreamAsks nesting layers aad input old new answer
-  ran : AreLimits nesting layers → TellsFront (plain nesting layers) aad input old new answer
+  ran : AreLimits nesting layers → TellsFront (within nesting layers false) aad input old new answer
       → StreamAsks nesting layers aad input old new answer

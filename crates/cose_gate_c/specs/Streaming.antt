@@ -1,9 +1,9 @@
 -- What the streaming calls over memory find, and what the check of these returns.
-use Rattle.std.specs.Prelude.{◌≡◌, ℕ, ◌⊎◌, List, [], ◌∷◌, ◌++◌, length, Some, Bool, if◌then◌else◌}
+use Rattle.std.specs.Prelude.{◌≡◌, ℕ, ◌⊎◌, List, [], ◌∷◌, ◌++◌, length, Some, Bool, if◌then◌else◌, false}
 use Rattle.coset_labels.specs.Limits.{AreLimits}
 use Rattle.coset_labels.specs.Reading.{HasItem, WrongItem}
 use Rattle.cose_gate.specs.Faults.{CoseFault}
-use Rattle.cose_gate.specs.Findings.{Bounds, plain, IsJudged}
+use Rattle.cose_gate.specs.Findings.{Bounds, IsJudged, within}
 use Rattle.cose_gate.specs.Front.{Reads}
 use Rattle.cose_gate.specs.HmacJudges.{says_yes}
 use Rattle.cose_gate.specs.KeyFields.{KeyFields}
@@ -108,5 +108,5 @@ pub data StreamChecks (nesting layers : ℕ) (keys aad input : List ℕ) (answer
   no_memory : AreLimits nesting layers → IsUnchecked 4 7 answer
       → StreamChecks nesting layers keys aad input answer
   ran : (ks : List KeyFields) → AreLimits nesting layers → HasItem HasKeySet keys ks
-      → ChecksFront (plain nesting layers) (says_yes ks) aad input answer
+      → ChecksFront (within nesting layers false) (says_yes ks) aad input answer
       → StreamChecks nesting layers keys aad input answer

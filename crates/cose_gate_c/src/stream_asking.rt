@@ -1,7 +1,6 @@
 //! The question about a message in memory, which is read in place.
-ghost use Rattle.std.specs.Prelude.{◌≡◌};
-ghost use Rattle.coset_labels.specs.Limits.{nesting_of, layers_of};
-ghost use Rattle.cose_gate.specs.Findings.{plain};
+ghost use Rattle.std.specs.Prelude.{◌≡◌, false};
+ghost use Rattle.cose_gate.specs.Terms.{limits_by};
 ghost use Rattle.cose_gate_c.specs.StreamAsking.{TellsFront, IsUnasked, StreamAsks};
 
 use crate::keeping::Keeper;
@@ -78,7 +77,7 @@ fn ask_front(
     input: &[u8],
     question: &mut [u8],
 ) -> StreamQuestion
-    ensures { TellsFront (plain (nesting_of limits) (layers_of limits)) aad.now input.now
+    ensures { TellsFront (limits_by limits false) aad.now input.now
         question.old question.new result }
 {
     judged_can_be_written();

@@ -1,7 +1,6 @@
 //! The streaming check over memory.
-ghost use Rattle.std.specs.Prelude.{◌≡◌, if◌then◌else◌};
-ghost use Rattle.coset_labels.specs.Limits.{nesting_of, layers_of};
-ghost use Rattle.cose_gate.specs.Findings.{plain};
+ghost use Rattle.std.specs.Prelude.{◌≡◌, if◌then◌else◌, false};
+ghost use Rattle.cose_gate.specs.Terms.{limits_by};
 ghost use Rattle.cose_gate.specs.HmacJudges.{says_yes};
 ghost use Rattle.cose_gate.specs.KeyView.{key_set_view};
 ghost use Rattle.cose_gate_c.specs.Streaming as spec;
@@ -87,7 +86,7 @@ fn check_front(
     aad: &[u8],
     input: &[u8],
 ) -> StreamAnswer
-    ensures { ChecksFront (plain (nesting_of limits) (layers_of limits))
+    ensures { ChecksFront (limits_by limits false)
         (says_yes (key_set_view keys.now)) aad.now input.now result }
 {
     judged_can_be_written();

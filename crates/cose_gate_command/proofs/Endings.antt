@@ -10,7 +10,8 @@ use Rattle.cose_gate_core.specs.declared.gating.Counts.{Counts as Count}
 use Rattle.cose_gate_core.specs.declared.gating.GateFault.{GateFault}
 use Rattle.cose_gate_core.specs.declared.report.Entry.{Entry}
 use Rattle.cose_gate_program.specs.Lines.{line_of, lines_of}
-use Rattle.cose_gate_program.specs.Program.{Devices, result_of}
+use Rattle.cose_gate_core.specs.GateRun.{result_of}
+use Rattle.cose_gate_program.specs.Program.{Devices}
 use Rattle.cose_gate_program.specs.Telling.{RanTold, last_of, told_in}
 use Rattle.cose_gate_program.specs.Writing.{Wrote, WroteSince}
 use Rattle.cose_gate_program.specs.declared.devices.InputFault.{InputFault}

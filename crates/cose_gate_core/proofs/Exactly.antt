@@ -1,36 +1,23 @@
 -- A message's item is what is written for it exactly when it is spelled as its value is, and its
 -- value is the one that is written.
-use Rattle.std.proofs.Common.{◌≡◌, ◌^◌, ◌<◌, ◌⊎◌, inl, inr, ℕ, List, Bool, true, false, cond, Option, Some, None, option_map, refl, sym, ap, subst, ◌∙◌, nat_eq, arith}
+use Rattle.std.proofs.Common.{◌≡◌, ◌≢◌, ◌^◌, ◌<◌, ℕ, List, Bool, true, false, Option, Some, None, option_map, refl, sym, ap, subst, ◌∙◌, arith}
 use Rattle.std.specs.Prelude.{MatchBool, MatchOption}
-use Rattle.std.specs.Ordering.{nat_cmp}
-use Rattle.std.specs.Cmp.{Equal-is}
-use Rattle.std.specs.Cmp.Lexicographic.{nat_list_eq_equiv, pointwise, slice_cmp, texts_ties}
-use Rattle.std.specs.FinMap.{nat_cmp-IsAntisymmetric, slice_cmp-IsAntisymmetric}
 use Rattle.ciborium_value.specs.Tree.{Tree, tag}
 use Rattle.ciborium_value.specs.Encoding.{enc, Fits}
 use Rattle.ciborium.specs.Front.{Reads}
-use Rattle.coset_headers.proofs.Entered.{bool_cases}
 use Rattle.coset_headers.proofs.Sound.{reads_sound, sound_reads}
 use Rattle.coset_headers.proofs.Unique.{readable_once}
 use Rattle.coset_labels.specs.Limits.{nesting_of}
 use Rattle.cose_gate_core.specs.Questions.{MessageFields, sign1, mac0, sign, mac, number_of, kind_of, tag_of, message_tree, message_text, or_nothing}
-use Rattle.cose_gate_core.specs.Findings.{Bounds, HasMessage, Finds, judged, excluded_by}
+use Rattle.cose_gate_core.specs.Findings.{Bounds, HasMessage, Finds, judged}
 use Rattle.cose_gate_core.specs.Passing.{IsRefused, IsTold}
 use Rattle.cose_gate_core.specs.Terms.{limits_of, IsTaken}
 use Rattle.cose_gate_core.specs.declared.about.MessageKind.{MessageKind}
 use Rattle.cose_gate_core.specs.declared.report.Refusal.{Refusal}
 use Rattle.cose_gate_core.specs.declared.terms.Terms.{Terms}
-use Rattle.cose_gate_core.specs.declared.report.Refusal.TheVariants as refusal
 use Rattle.cose_gate_core.proofs.MessageKept.{tag_rewrite}
 use Rattle.cose_gate_core.proofs.Rewritten.{message_again}
 use Rattle.cose_gate_core.proofs.Written.{has_tree}
-
-pub same_text : (x y : List ℕ) → pointwise nat_eq x y ≡ true → x ≡ y
-same_text x y e =
-    slice_cmp-IsAntisymmetric nat_cmp-IsAntisymmetric x y ((Equal-is (slice_cmp nat_cmp x y)).0 (sym (texts_ties x y) ∙ e))
-
-pub text_same : (x y : List ℕ) → x ≡ y → pointwise nat_eq x y ≡ true
-text_same x y e = ap (λ z. pointwise nat_eq z y) e ∙ nat_list_eq_equiv.refl y
 
 -- the encoding of a message that is written as this tree
 text_is : (m : MessageFields) (v : Tree) → message_tree m ≡ Some v → message_text m ≡ enc (tag (tag_of m) v)
@@ -75,27 +62,17 @@ module _ (l : Bounds) (n : ℕ) (b : List ℕ) (u : Tree) (m : MessageFields) wh
   abbrev Exact : Bool → Type 0
   Exact exact = MatchBool exact (b ≡ enc (tag (tag_of m) u)) (b ≡ enc (tag (tag_of m) u) → ⊥)
 
-  let_through : b ≡ message_text m → excluded_by true b m ≡ None
-  let_through e = ap (λ c. cond c None (Some refusal.NotShortest)) (text_same b (message_text m) e)
-
-  held_back : (b ≡ message_text m → ⊥) → excluded_by true b m ≡ Some refusal.NotShortest
-  held_back other = by_case (bool_cases (pointwise nat_eq b (message_text m)))
-    where
-      by_case : (pointwise nat_eq b (message_text m) ≡ true) ⊎ (pointwise nat_eq b (message_text m) ≡ false) → excluded_by true b m ≡ Some refusal.NotShortest
-      by_case (inl t) = absurd (other (same_text b (message_text m) t))
-      by_case (inr f) = ap (λ c. cond c None (Some refusal.NotShortest)) f
-
   not_text : (exact : Bool) → HasMessage l u m → Reads b n (tag (tag_of m) u) → Fits u → Exact exact → (exact ≡ true → message_tree m ≡ Some u → ⊥) → b ≡ message_text m → ⊥
   not_text true has reads fits x differs e = differs refl (exact_text l n b u m has reads fits e).1
   not_text false has reads fits x differs e = x (exact_text l n b u m has reads fits e).0
 
   pub told_of : (strict exact through : Bool) → HasMessage l u m → Reads b n (tag (tag_of m) u) → (strict ≡ true → Exact exact) → Told strict exact through
-      → MatchBool through (excluded_by strict b m ≡ None) (excluded_by strict b m ≡ Some refusal.NotShortest)
-  told_of false exact true has reads x t = refl
+      → MatchBool through (strict ≡ true → b ≡ message_text m) ((strict ≡ true) × (b ≢ message_text m))
+  told_of false exact true has reads x t = λ s. (let h : false ≡ true = s in cc)
   told_of false exact false has reads x (q, f, differs) = let h : false ≡ true = q in cc
-  told_of true true true has reads x t = let_through (x refl ∙ sym (text_is m u (t refl).1))
+  told_of true true true has reads x t = λ s. x refl ∙ sym (text_is m u (t refl).1)
   told_of true false true has reads x t = let h : false ≡ true = (t refl).0 in cc
-  told_of true exact false has reads x (q, f, differs) = held_back (not_text exact has reads f (x refl) differs)
+  told_of true exact false has reads x (q, f, differs) = (q, not_text exact has reads f (x refl) differs)
 
 -- why a message of a kind is refused that was read under the kind's tag, or that it is judged
 pub found_as : (terms : Terms) (m : MessageFields) (k : MessageKind) (u : Tree) (b : List ℕ) (exact through : Bool) (r : Option Refusal) → kind_of m ≡ k → HasMessage (limits_of terms) u m

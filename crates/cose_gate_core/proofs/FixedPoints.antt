@@ -1,5 +1,5 @@
 -- A run over what a run wrote, by limits that let it through, passes each message again.
-use Rattle.std.proofs.Common.{◌≡◌, ℕ, ◌+◌, ◌^◌, ◌<◌, ◌⊎◌, inl, inr, List, [], ◌∷◌, ◌++◌, length, map, Bool, true, false, cond, Option, Some, None, refl, sym, ap, subst, ◌∙◌, arith, length-append, append-nil}
+use Rattle.std.proofs.Common.{◌≡◌, ℕ, ◌+◌, ◌^◌, ◌<◌, ◌≤◌, ◌⊎◌, inl, inr, List, [], ◌∷◌, ◌++◌, length, map, Bool, true, false, cond, Option, Some, None, refl, sym, ap, subst, ◌∙◌, arith, length-append, append-nil}
 use Rattle.std.specs.Prelude.{All, is_none, not, count_by}
 use Rattle.std.proofs.lemmas.List.Elements.{All-nil, All-cons}
 use Rattle.std.proofs.lemmas.List.Sums.{sum_by-cons}
@@ -15,12 +15,12 @@ use Rattle.cose_gate_core.specs.declared.report.Verdict.{Verdict}
 use Rattle.cose_gate_core.specs.declared.report.Verdict.TheVariants.{Passed}
 use Rattle.cose_gate_core.specs.Questions.{Question, MessageFields, questions, message_text}
 use Rattle.cose_gate_core.specs.Asked.{first_no}
-use Rattle.cose_gate_core.specs.Findings.{Finding, judged, barred, excluded, Bounds, Finds}
+use Rattle.cose_gate_core.specs.Findings.{Finding, judged, barred, Bounds, Finds}
 use Rattle.cose_gate_core.specs.Run.{Step, Steps, Run, IsVerdict, judged_by, asked_of, passes, text_of, written_of, questions_of, output_of, entries_of, passed_count, refused_count}
 use Rattle.cose_gate_core.proofs.Unique.{finding_once, run_once}
 use Rattle.cose_gate_core.specs.Anew.{bytes_of, AreEntries}
 use Rattle.cose_gate_core.specs.Output.{passed_of, passed_messages}
-use Rattle.cose_gate_core.specs.Fixed.{passed_questions, Admits, FixedPoint}
+use Rattle.cose_gate_core.specs.Fixed.{passed_questions, FixedPoint}
 use Rattle.cose_gate_core.proofs.Placed.{put, placed, placed_asks, placed_writes, AllSteps, run_told, run_again}
 use Rattle.cose_gate_core.proofs.Within.{nothing_unreadable}
 use Rattle.cose_gate_core.proofs.Lows.{IsByte, before, behind, reads_fits}
@@ -66,22 +66,21 @@ module _ (l : Bounds) (allows : Question → Bool) (aad : List ℕ) where
       let both = one_more_counted (λ f. not (passes allows aad f)) s ss in
       both ∙ ap (λ z. z + refused_count allows aad ss) one ∙ ap (λ z. 0 + z) more
 
-  verdict_through : (t : Tree) (f : Finding) (v : Verdict) → IsVerdict l allows aad t f v → passes allows aad f ≡ true → v ≡ Passed
-  verdict_through t (judged m) v h e = h ∙ sym (passed_verdict (first_no allows (questions m aad)) e)
-  verdict_through t (barred r) v h e = let q : false ≡ true = e in cc
-  verdict_through t (excluded m r) v h e = let q : false ≡ true = e in cc
+  verdict_through : (f : Finding) (v : Verdict) → IsVerdict allows aad f v → passes allows aad f ≡ true → v ≡ Passed
+  verdict_through (judged m) v h e = h ∙ sym (passed_verdict (first_no allows (questions m aad)) e)
+  verdict_through (barred r) v h e = let q : false ≡ true = e in cc
 
   entries_through : (n : ℕ) (ss : List Step) → Steps l allows aad n ss → Through ss → All HasPassed (entries_of ss)
   entries_through n [] h t = All-nil HasPassed
   entries_through n (s ∷ ss) h t =
-      All-cons HasPassed s.entry (entries_of ss) (verdict_through s.item.value s.finding s.entry.verdict h.3 t.0) (entries_through (n + 1) ss h.4 t.1)
+      All-cons HasPassed s.entry (entries_of ss) (verdict_through s.finding s.entry.verdict h.3 t.0) (entries_through (n + 1) ss h.4 t.1)
 
-  noted_through : (ss : List Step) (es : List Entry) → Through ss → AreEntries l allows aad ss es → All HasPassed es
+  noted_through : (ss : List Step) (es : List Entry) → Through ss → AreEntries allows aad ss es → All HasPassed es
   noted_through [] [] t h = All-nil HasPassed
   noted_through [] (e ∷ es) t h = absurd h
   noted_through (s ∷ ss) [] t h = absurd h
   noted_through (s ∷ ss) (e ∷ es) t h =
-      All-cons HasPassed e es (verdict_through s.item.value s.finding e.verdict h.2 t.0) (noted_through ss es t.1 h.3)
+      All-cons HasPassed e es (verdict_through s.finding e.verdict h.2 t.0) (noted_through ss es t.1 h.3)
 
   -- ---- steps over the same items
   record Same (ss rs : List Step) : Type 0 where
@@ -120,20 +119,19 @@ module _ (l k : Bounds) (allows : Question → Bool) (aad : List ℕ) where
     nothing : passes allows aad f ≡ false → passed_of allows aad f ≡ [] → Becomes f
     message : (m : MessageFields) (t : Tree) → f ≡ judged m → passes allows aad (judged m) ≡ true → message_text m ≡ enc t → Reads (enc t) k.nesting t → Finds k (enc t) t (judged m) → Becomes f
 
-  module _ (keeps : Admits l k) where
+  module _ (levels : l.nesting ≤ k.nesting) (layers : l.layers ≤ k.layers) where
     becomes_judged : (b : List ℕ) (t : Tree) (m : MessageFields) → Finds l b t (judged m) → Reads b l.nesting t → All IsByte b → length b < 2 ^ 64
         → (passes allows aad (judged m) ≡ true) ⊎ (passes allows aad (judged m) ≡ false) → Becomes (judged m)
     becomes_judged b t m h r low few (inr out) = nothing out (ap (λ c. cond c (m ∷ []) []) out)
     becomes_judged b t m h r low few (inl through) =
         let w = rewritten l t m h.0 in
         let f = reads_fits b l.nesting t r low few in
-        message m w.tree refl through w.text (sound_reads k.nesting w.tree (w.rewrite.kept.fits f) (w.rewrite.sound k.nesting (reads_sound b k.nesting t (reads_wider l.nesting k.nesting keeps.nesting b t r))))
-        (judged_wider l k keeps.nesting keeps.layers w.tree m w.has, subst (λ z. k.excludes z m ≡ None) w.text (keeps.written b m h.1))
+        message m w.tree refl through w.text (sound_reads k.nesting w.tree (w.rewrite.kept.fits f) (w.rewrite.sound k.nesting (reads_sound b k.nesting t (reads_wider l.nesting k.nesting levels b t r))))
+        (judged_wider l k levels layers w.tree m w.has, λ s. sym w.text)
 
     becomes : (b : List ℕ) (t : Tree) (f : Finding) → Finds l b t f → Reads b l.nesting t → All IsByte b → length b < 2 ^ 64 → Becomes f
     becomes b t (judged m) h r low few = becomes_judged b t m h r low few (bool_cases (passes allows aad (judged m)))
     becomes b t (barred q) h r low few = nothing refl refl
-    becomes b t (excluded m q) h r low few = nothing refl refl
 
     -- the step over the encoding of a message that passed
     abbrev again : MessageFields → Tree → Step

@@ -1,5 +1,5 @@
 -- What was gone through is a beginning of the run, and steps over the same trees say the same.
-use Rattle.std.proofs.Common.{◌≡◌, ℕ, ◌+◌, inl, inr, List, [], ◌∷◌, ◌++◌, length, map, Bool, false, refl, sym, ap, subst, ◌∙◌, append_assoc, append-nil, cond}
+use Rattle.std.proofs.Common.{◌≡◌, ℕ, ◌+◌, inl, inr, List, [], ◌∷◌, ◌++◌, length, map, Bool, true, false, refl, sym, ap, subst, ◌∙◌, append_assoc, append-nil, cond}
 use Rattle.std.proofs.lemmas.List.{append_cancel_left, map-append}
 use Rattle.std.proofs.lemmas.Grind.{flat_map-append}
 use Rattle.ciborium_value.specs.Tree.{Tree}
@@ -9,15 +9,15 @@ use Rattle.coset_headers.proofs.Unique.{reads_once}
 use Rattle.cose_gate_core.specs.declared.report.Verdict.{Verdict}
 use Rattle.cose_gate_core.specs.Questions.{Question}
 use Rattle.cose_gate_core.specs.Asked.{IsFront}
-use Rattle.cose_gate_core.specs.Findings.{Bounds, Finding, judged, barred, excluded, not_tagged, encrypted, other_tag, shape, detached, no_signature, Finds}
+use Rattle.cose_gate_core.specs.Findings.{Bounds, Finding, judged, barred, not_tagged, encrypted, other_tag, shape, detached, no_signature, not_shortest, Finds}
 use Rattle.cose_gate_core.specs.Run.{Step, Steps, Run, Course, IsVerdict, asked_of, written_of, text_of, passes, questions_of, output_of, entries_of}
 use Rattle.cose_gate_core.proofs.Unique.{finding_once, run_once}
-use Rattle.cose_gate_core.specs.Anew.{bytes_of, entry_behind, SameVerdict, SameEntries, SameVerdicts, EntriesBegin, IgnoresSpelling}
+use Rattle.cose_gate_core.specs.Anew.{bytes_of, entry_behind, SameVerdict, SameEntries, SameVerdicts, EntriesBegin}
 use Rattle.cose_gate_core.proofs.Placed.{placed, placed_append, placed_asks, placed_writes, bytes_append, Stand, stand_entries, stand_same, IsStep, AllSteps, Told, all_append, all_split, run_told, run_again}
 
 -- one verdict stands for a finding, but for the fault of a shape
-module _ (limits : Bounds) (allows : Question → Bool) (aad : List ℕ) (t : Tree) where
-  verdict_once : (f : Finding) (v w : Verdict) → IsVerdict limits allows aad t f v → IsVerdict limits allows aad t f w → SameVerdict v w
+module _ (allows : Question → Bool) (aad : List ℕ) where
+  verdict_once : (f : Finding) (v w : Verdict) → IsVerdict allows aad f v → IsVerdict allows aad f w → SameVerdict v w
   verdict_once (judged m) v w a b = inl (a ∙ sym b)
   verdict_once (barred not_tagged) v w a b = inl (a ∙ sym b)
   verdict_once (barred encrypted) v w a b = inl (a ∙ sym b)
@@ -25,7 +25,7 @@ module _ (limits : Bounds) (allows : Question → Bool) (aad : List ℕ) (t : Tr
   verdict_once (barred shape) v w a b = inr (a.0, b.0, a.1, b.1)
   verdict_once (barred detached) v w a b = inl (a ∙ sym b)
   verdict_once (barred no_signature) v w a b = inl (a ∙ sym b)
-  verdict_once (excluded m r) v w a b = inl (a ∙ sym b)
+  verdict_once (barred not_shortest) v w a b = inl (a ∙ sym b)
 
 pub asks_append : (allows : Question → Bool) (aad : List ℕ) (ss rs : List Step) → questions_of allows aad (ss ++ rs) ≡ questions_of allows aad ss ++ questions_of allows aad rs
 asks_append allows aad ss rs = flat_map-append (λ s. asked_of allows aad s.finding) ss rs
@@ -47,25 +47,29 @@ module _ (limits : Bounds) (allows : Question → Bool) (aad : List ℕ) where
     finding : s.finding ≡ r.finding
     verdict : SameVerdict s.entry.verdict r.entry.verdict
 
-  same_step : (s r : Step) → s.item.value ≡ r.item.value → Sound s → Sound r → Finds limits s.item.bytes s.item.value r.finding → Equal s r
-  same_step s r e a b g =
+  same_step : (s r : Step) → Sound s → Sound r → Finds limits s.item.bytes s.item.value r.finding → Equal s r
+  same_step s r a b g =
       let f = finding_once limits s.item.bytes s.item.value s.finding r.finding a.1 g in
-      let v : IsVerdict limits allows aad s.item.value s.finding r.entry.verdict =
-      subst (λ z. IsVerdict limits allows aad s.item.value z r.entry.verdict) (sym f) (subst (λ z. IsVerdict limits allows aad z r.finding r.entry.verdict) (sym e) b.2) in
-      record { finding = f; verdict = verdict_once limits allows aad s.item.value s.finding s.entry.verdict r.entry.verdict a.2 v }
+      let v : IsVerdict allows aad s.finding r.entry.verdict = subst (λ z. IsVerdict allows aad z r.entry.verdict) (sym f) b.2 in
+      record { finding = f; verdict = verdict_once allows aad s.finding s.entry.verdict r.entry.verdict a.2 v }
 
   one_step : (s r : Step) → s.item ≡ r.item → Sound s → Sound r → Equal s r
-  one_step s r e a b = same_step s r (ap (λ (z : Item). z.value) e) a b (subst (λ (z : Item). Finds limits z.bytes z.value r.finding) (sym e) b.1)
+  one_step s r e a b = same_step s r a b (subst (λ (z : Item). Finds limits z.bytes z.value r.finding) (sym e) b.1)
 
-  -- if the further rule doesn't hang on the bytes, what is found doesn't
-  found_of : IgnoresSpelling limits → (b c : List ℕ) (t : Tree) (f : Finding) → Finds limits b t f → Finds limits c t f
-  found_of i b c t (judged m) h = (h.0, i c b m ∙ h.1)
-  found_of i b c t (barred r) h = h
-  found_of i b c t (excluded m r) h = (h.0, i c b m ∙ h.1)
+  -- if the gate isn't strict, what is found doesn't hang on the bytes
+  found_of : limits.strict ≡ false → (b c : List ℕ) (t : Tree) (f : Finding) → Finds limits b t f → Finds limits c t f
+  found_of i b c t (judged m) h = (h.0, λ s. (let no : false ≡ true = sym i ∙ s in cc))
+  found_of i b c t (barred not_tagged) h = h
+  found_of i b c t (barred encrypted) h = h
+  found_of i b c t (barred (other_tag n)) h = h
+  found_of i b c t (barred shape) h = h
+  found_of i b c t (barred detached) h = h
+  found_of i b c t (barred no_signature) h = h
+  found_of i b c t (barred not_shortest) (m, j, s, n) = let no : false ≡ true = sym i ∙ s in absurd (cc)
 
-  one_value : IgnoresSpelling limits → (s r : Step) → s.item.value ≡ r.item.value → Sound s → Sound r → Equal s r
+  one_value : limits.strict ≡ false → (s r : Step) → s.item.value ≡ r.item.value → Sound s → Sound r → Equal s r
   one_value i s r e a b =
-      same_step s r e a b (found_of i r.item.bytes s.item.bytes s.item.value r.finding (subst (λ z. Finds limits r.item.bytes z r.finding) (sym e) b.1))
+      same_step s r a b (found_of i r.item.bytes s.item.bytes s.item.value r.finding (subst (λ z. Finds limits r.item.bytes z r.finding) (sym e) b.1))
 
   alike_more : (s r : Step) (ss rs : List Step) → Equal s r → Alike ss rs → Alike (s ∷ ss) (r ∷ rs)
   alike_more s r ss rs e a =
@@ -81,7 +85,7 @@ module _ (limits : Bounds) (allows : Question → Bool) (aad : List ℕ) where
   none_alike = record { asks = refl; writes = refl; verdicts = tt }
 
   -- the same trees in the same order
-  pub alike : IgnoresSpelling limits → (ss rs : List Step) → map (λ s. s.item.value) ss ≡ map (λ s. s.item.value) rs → AllSteps limits allows aad ss → AllSteps limits allows aad rs → Alike ss rs
+  pub alike : limits.strict ≡ false → (ss rs : List Step) → map (λ s. s.item.value) ss ≡ map (λ s. s.item.value) rs → AllSteps limits allows aad ss → AllSteps limits allows aad rs → Alike ss rs
   alike i [] [] e a b = none_alike
   alike i [] (r ∷ rs) e a b = let h : [] ≡ r.item.value ∷ map (λ s. s.item.value) rs = e in cc
   alike i (s ∷ ss) [] e a b = let h : s.item.value ∷ map (λ s. s.item.value) ss ≡ [] = e in cc

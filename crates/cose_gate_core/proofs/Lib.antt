@@ -16,9 +16,11 @@ pub mod MessageKept
 pub mod Narrowed
 pub mod NoMemory
 pub mod Nothing
+pub mod OfNothing
 pub mod Outcomes
 pub mod Outputs
 pub mod Placed
+pub mod RanWhole
 pub mod Reach
 pub mod Rewritten
 pub mod Shorter

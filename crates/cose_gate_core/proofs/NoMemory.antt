@@ -14,7 +14,8 @@ use Rattle.cose_gate_core.specs.WrongRecipients.{WrongRecipient, WrongList}
 use Rattle.cose_gate_core.specs.WrongRecipients as recipients
 use Rattle.cose_gate_core.specs.WrongSigned.{IsNoSignature, whatever, WrongSignatureList}
 use Rattle.cose_gate_core.specs.WrongSigned as signed
-use Rattle.cose_gate_core.specs.Findings.{Bounds, WrongMessage, IsMisshapen}
+use Rattle.cose_gate_core.specs.Findings.{Bounds}
+use Rattle.cose_gate_core.specs.Misshapen.{WrongMessage, IsMisshapen}
 use Rattle.cose_gate_core.specs.declared.about.MessageKind.{MessageKind}
 use Rattle.cose_gate_core.specs.declared.about.MessageKind.TheVariants as kind
 

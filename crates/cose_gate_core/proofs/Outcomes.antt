@@ -1,15 +1,16 @@
 -- What is returned, from how far the gate has come.
 use Rattle.std.proofs.Common.{◌≡◌, ◌≢◌, ◌⊎◌, inl, inr, ℕ, ◌+◌, ◌^◌, ◌<◌, ◌≤◌, List, [], ◌∷◌, ◌++◌, length, map, Option, None, Some, Bool, true, false, not, cond, refl, sym, ap, subst, ◌∙◌, arith, append-nil, length-append}
 use Rattle.std.specs.Prelude.{Result, Ok, Err, IfOk}
-use Rattle.std.specs.Io.KnownBytes.{Consumes, Appends}
+use Rattle.std.specs.Io.KnownBytes.{Consumes, Appends, Keeps}
 use Rattle.std.proofs.KnownBytes.{Appends-trans}
 use Rattle.std.proofs.lemmas.Grind.{flat_map-append}
 use Rattle.ciborium_ll.specs.Reading.{Moves, Starts}
 use Rattle.ciborium_value.specs.Tree.{Tree}
 use Rattle.ciborium_ll.proofs.Closings.{same_fronts}
 use Rattle.ciborium.specs.Front.{Reads, HoldsOne}
+use Rattle.ciborium.proofs.Excludes.{excludes}
 use Rattle.ciborium.proofs.OneItem.{read_one}
-use Rattle.ciborium.specs.Items.{SequenceWithin}
+use Rattle.ciborium.specs.Items.{SequenceWithin, IsUnreadableWithin}
 use Rattle.ciborium.specs.Damage.{end, deep, syntax, semantic, Damage}
 use Rattle.ciborium.specs.Reading.{IfKnown, IfEnd, FailsAt, IsNoMemory, IsFar, SomeTaken, fault_failures}
 use Rattle.ciborium.specs.declared.de.Error.{Error}
@@ -21,23 +22,23 @@ use Rattle.cose_gate_core.specs.declared.gating.GateFault.{GateFault}
 use Rattle.cose_gate_core.specs.declared.gating.GateFault.TheVariants.{Decode, Write, Memory}
 use Rattle.cose_gate_core.specs.declared.passing.ItemFault.{ItemFault}
 use Rattle.cose_gate_core.specs.declared.passing.ItemFault.TheVariants as fault
-use Rattle.cose_gate_core.specs.Questions.{MessageFields, questions}
+use Rattle.cose_gate_core.specs.Questions.{Question, MessageFields, questions}
 use Rattle.cose_gate_core.specs.Asked.{first_no, folded_over, IsFront}
 use Rattle.cose_gate_core.specs.Findings.{judged}
-use Rattle.cose_gate_core.specs.Run.{Step, Steps, judged_by, has_passed, passes, asked_of, written_of, questions_of, output_of, entries_of, passed_count, refused_count, Course}
-use Rattle.cose_gate_core.specs.Outcome.{Rules, GateState, Made, Reached, IsFaultOf, IsReadFault, StandsIn, TakesOne, IsNoReaderFault, Answers, IfTooLong}
+use Rattle.cose_gate_core.specs.Run.{Step, Steps, judged_by, has_passed, passes, asked_of, text_of, written_of, questions_of, output_of, entries_of, passed_count, refused_count, Course}
+use Rattle.cose_gate_core.specs.Outcome.{Rules, GateState, IsFaultOf, IsNoReaderFault, IfTooLong}
+use Rattle.cose_gate_core.specs.Misshapen.{NamesShapes}
+use Rattle.cose_gate_core.specs.Next.{Made, Reached, IsReadFault}
+use Rattle.cose_gate_core.specs.GateRun.{asking, writing, noting, Ending, finished, unflushed, unreadable, no_memory, within, at_hand, taken_at, asked_at, written_at, result_of, IfOfBytes, EndsAt, FaultAt, Leaves, Ran}
 use Rattle.cose_gate_core.specs.Passing.{ItemRules, ItemSight, WentThrough, Half, HalfWritten, ItemFails, at_end, stopped_by}
 use Rattle.coset_labels.specs.Limits.{nesting_of}
 use Rattle.cose_gate_core.specs.Terms.{IsTaken}
 use Rattle.cose_gate_core.specs.declared.terms.Terms.{Terms}
+use Rattle.cose_gate_core.proofs.Items.{answers_name}
 use Rattle.cose_gate_core.proofs.Nothing.{empty_damage}
 use Rattle.cose_gate_core.proofs.Reach.{reads_some, further, step_at, entry_at, told_then, questions_then, output_then, entries_then, verdict_passes, count_then, folded_append, sequence_more}
 
--- a list is a beginning of itself, and of itself and more
-pub whole_front : {A : Type 0} (xs : List A) → IsFront xs xs
-whole_front xs = record { more = []; whole = sym (append-nil xs) }
-
-pub front_then : {A : Type 0} (xs ys all : List A) → all ≡ xs ++ ys → IsFront xs all
+front_then : {A : Type 0} (xs ys all : List A) → all ≡ xs ++ ys → IsFront xs all
 front_then xs ys all e = record { more = ys; whole = e }
 
 -- it is not all, if more follows
@@ -153,6 +154,62 @@ nothing_read k l₁ l₂ p₁ p₂ v e t = go l₂ (subst (λ (l : Option (List 
         let some = reads_some k t.bytes v t.has in
         omega arith
 
+-- of bytes that are known
+known : (P Q : List ℕ → Type 0) (l : Option (List ℕ)) → ((b : List ℕ) → P b → Q b) → IfKnown l P → IfKnown l Q
+known P Q None then p = tt
+known P Q (Some b) then p = then b p
+
+-- no readable item begins where there is a fault of the bytes
+of_bytes : {E : Type 0} (ends : E → Bool) (n stop : ℕ) (more : List ℕ) (e : Error E) → IsFaultOf ends n stop more e → IfOfBytes ends (IsUnreadableWithin n more) e
+of_bytes ends n stop more (de.Io x) f = λ y v rest w. excludes stop more n end (f y).0 v rest w
+of_bytes ends n stop more (de.Syntax p) f = λ v rest w. excludes stop more n (syntax p) f v rest w
+of_bytes ends n stop more (de.Semantic o k) f = λ v rest w. excludes stop more n (semantic k) f.1 v rest w
+of_bytes ends n stop more de.RecursionLimitExceeded f = λ v rest w. excludes stop more n deep f v rest w
+of_bytes ends n stop more de.Memory f = tt
+of_bytes ends n stop more de.TooLong f = tt
+
+counted : (count : Counts) (p q : ℕ) → count.passed ≡ p → count.refused ≡ q → count ≡ record { passed = p; refused = q }
+counted count p q a b =
+    ap (λ (z : ℕ). let c : Counts = record { passed = z; refused = count.refused } in c) a
+    ∙ ap (λ (z : ℕ). let c : Counts = record { passed = p; refused = z } in c) b
+
+module _ {T S E : Type 0} (ends : E → Bool) (live : Bool) (by : Rules T S) (old new : GateState T S) where
+  abbrev qs : List Step → List Question
+  qs ss = questions_of by.allows by.aad ss
+
+  abbrev ws : List Step → List ℕ
+  ws ss = output_of by.allows by.aad ss
+
+  -- no item was at hand
+  between : (r : Result Counts (GateFault E)) (done : List Step) (g : Ending E) (more rest : List ℕ) → at_hand g ≡ [] → asked_at by.allows by.aad g ≡ [] → written_at by.allows by.aad g ≡ []
+      → (input : List ℕ) → IfKnown old.left (λ b. b ≡ input) → Course by.limits by.allows by.aad old.offset input done more → more ≡ taken_at g ++ rest
+      → EndsAt ends live by.limits by.allows by.aad old.left done rest g → Leaves g old.left new.left rest → Made by old new done
+      → new.offset + length rest ≡ old.offset + length input
+      → r ≡ result_of by.allows by.aad (record { done = done; ending = g; rest = rest }) → FaultAt ends by.limits old.offset old.left rest g → NamesShapes by.limits done → Ran ends live by old new r
+  between r done g more rest hand asked written input is course whole ends_at left made stands same fault shapes = record {
+    input = input;
+    is = is;
+    run = record { done = done; ending = g; rest = rest };
+    course = subst (λ (ss : List Step). Course by.limits by.allows by.aad old.offset input ss (taken_at g ++ rest)) (sym (ap (λ z. done ++ z) hand ∙ append-nil done))
+        (subst (λ (b : List ℕ). Course by.limits by.allows by.aad old.offset input done b) whole course);
+    ends_at = ends_at;
+    asked = made.told ∙ ap (folded_over by.decided old.told) (sym (ap (λ z. qs done ++ z) asked ∙ append-nil (qs done)));
+    noted = made.state;
+    written = subst (λ (b : List ℕ). Appends old.written new.written b) (sym (ap (λ z. ws done ++ z) written ∙ append-nil (ws done))) made.written;
+    returned = same;
+    stands = stands;
+    left = left;
+    fault = fault;
+    shapes = subst (λ (ss : List Step). NamesShapes by.limits ss) (sym (ap (λ z. done ++ z) hand ∙ append-nil done)) shapes;
+  }
+
+-- a flush adds nothing
+pub flushed : (a b c : Option (List ℕ)) (x : List ℕ) → Keeps b c → Appends a b x → Appends a c x
+flushed None b c x q p = tt
+flushed (Some a) None c x q p = absurd p
+flushed (Some a) (Some b) None x q p = absurd q
+flushed (Some a) (Some b) (Some c) x q p = q ∙ p
+
 -- what an item goes by, and what is seen of it
 abbrev item_rules_of : {T S : Type 0} → Rules T S → ItemRules T
 item_rules_of rules = record { limits = rules.limits; decided = rules.decided; allows = rules.allows; aad = rules.aad }
@@ -184,12 +241,13 @@ module _ {T S : Type 0} (rules : Rules T S) where
   unfolding step_at
   reached_step old new newer passed refused passed' refused' r v t verdict k e same state more less =
       let s = step_at new.offset t.bytes v k.finding (entry_at (passed + refused + 1) new.offset verdict) in
-      let w = further rules old new newer passed refused r v t k.finding verdict k.finds k.verdict in
-      let q = verdict_passes rules.limits rules.allows rules.aad v k.finding verdict k.verdict in
+      let w = further rules old new newer passed refused r v t k.finding verdict k.finds k.verdict k.shape in
+      let q = verdict_passes rules.limits rules.allows rules.aad k.finding verdict k.verdict in
       record {
         done = r.done ++ s ∷ [];
         taken = w.taken;
         steps = w.steps;
+        shapes = w.shapes;
         made = record {
           told = told_then rules old.told new.told newer.told r.done s r.made.told k.tells;
           state = state ∙ ap (λ z. rules.folded z e) r.made.state ∙ ap (rules.folded (folded_over rules.folded old.state (entries_of r.done))) same
@@ -228,206 +286,181 @@ module _ {T S : Type 0} (rules : Rules T S) where
   judged_step n o x v m = step_at o x v (judged m) (entry_at n o (judged_by (first_no rules.allows (questions m rules.aad))))
 
   -- Ok: no byte is left
-  pub answer_whole : {E : Type 0} (ends : E → Bool) (old new newer : GateState T S) (counts : Counts) → Reached rules old new counts.passed counts.refused
-      → newer.told ≡ new.told → newer.state ≡ new.state → newer.written ≡ new.written → IfKnown new.left (λ b. (b ≡ []) × (newer.left ≡ Some [])) × (newer.offset ≡ new.offset) → Answers ends rules old newer (Ok counts)
-  answer_whole ends old new newer counts r told state writes (none, stays) =
+  pub answer_whole : {E : Type 0} (ends : E → Bool) (live : Bool) (old new newer : GateState T S) (counts : Counts) → Reached rules old new counts.passed counts.refused
+      → newer.told ≡ new.told → newer.state ≡ new.state → newer.written ≡ new.written → IfKnown new.left (λ b. (b ≡ []) × (newer.left ≡ Some [])) × (newer.offset ≡ new.offset) → Ran ends live rules old newer (Ok counts)
+  answer_whole ends live old new newer counts r told state writes (none, stays) =
       let w = left_after old new r.done r.taken r.steps [] (none_first (newer.left ≡ Some []) new.left none) in
-      record {
-        input = w.input;
-        is = w.is;
-        outcome = record {
-          steps = r.done;
-          course = w.course;
-          made = still old new newer r.done told state writes r.made;
-          passed = r.passed_is;
-          refused = r.refused_is;
-          grown = (let s = w.stop in let z : new.offset + 0 ≡ old.offset + length w.input = s in omega arith);
-          ended = nothing_behind old.left new.left newer.left r.taken.bytes r.taken.taken none;
-        };
-      }
+      let s : new.offset + 0 ≡ old.offset + length w.input = w.stop in
+      between ends live rules old newer (Ok counts) r.done finished [] [] refl refl refl w.input w.is w.course refl refl
+      (nothing_behind old.left new.left newer.left r.taken.bytes r.taken.taken none) (still old new newer r.done told state writes r.made) (omega arith)
+      (ap Ok (counted counts (passed_count rules.allows rules.aad r.done) (refused_count rules.allows rules.aad r.done) r.passed_is r.refused_is)) tt r.shapes
 
-  -- the gate is in what was to come after the steps
-  stands_in : (old new newer : GateState T S) (P : Type 0) (input b : List ℕ) → Consumes old.left new.left b → (k : Partly new.left newer.left new.offset newer.offset P)
-      → new.offset + length k.more ≡ old.offset + length input → StandsIn old newer input k.more P
-  stands_in old new newer P input b c k s = record {
-    taken = k.taken;
-    rest = k.rest;
-    whole = k.whole;
-    stands = (let l : length k.more ≡ length k.taken + length k.rest = ap length k.whole ∙ length-append k.taken k.rest in let g = k.grown in omega arith);
-    behind = λ is. known_before (newer.left ≡ Some k.rest) old.left new.left b c (k.behind is);
-  }
-
-  -- what was taken of what was to come after the steps holds one item at most
-  takes_one : (old new newer : GateState T S) (input : List ℕ) (Q : List ℕ → Type 0) (t : Moves new.left newer.left new.offset newer.offset Q) → HoldsOne t.bytes
-      → new.offset + length (t.bytes ++ rest_of newer.left) ≡ old.offset + length input → TakesOne old newer input (t.bytes ++ rest_of newer.left)
-  takes_one old new newer input Q t one s taken rest is place =
-      let l : length taken ≡ length t.bytes = omega (arith, s, place, t.grown, ap length is, length-append taken rest, length-append t.bytes (rest_of newer.left)) in
-      subst HoldsOne (sym (same_fronts taken t.bytes rest (rest_of newer.left) l (sym is)).0) one
+  -- what was to come after the steps, and how much of it was taken
+  rest_stands : (old new newer : GateState T S) (P : Type 0) (input : List ℕ) (k : Partly new.left newer.left new.offset newer.offset P) → new.offset + length k.more ≡ old.offset + length input
+      → newer.offset + length k.rest ≡ old.offset + length input
+  rest_stands old new newer P input k s =
+      let l : length k.more ≡ length k.taken + length k.rest = ap length k.whole ∙ length-append k.taken k.rest in
+      let g = k.grown in
+      omega arith
 
   -- Memory, if all steps so far are made
-  memory_between : {E : Type 0} (ends : E → Bool) (old new newer : GateState T S) (passed refused : ℕ) → Reached rules old new passed refused
+  memory_between : {E : Type 0} (ends : E → Bool) (live : Bool) (old new newer : GateState T S) (passed refused : ℕ) → Reached rules old new passed refused
       → newer.told ≡ new.told → newer.state ≡ new.state → newer.written ≡ new.written → (new.left ≡ Some [] → ⊥)
-      → (Q : List ℕ → Type 0) → ((b : List ℕ) → Q b → HoldsOne b) → Moves new.left newer.left new.offset newer.offset Q → Answers ends rules old newer (Err Memory)
+      → (Q : List ℕ → Type 0) → ((b : List ℕ) → Q b → HoldsOne b) → Moves new.left newer.left new.offset newer.offset Q → Ran ends live rules old newer (Err Memory)
   unfolding moved
-  memory_between ends old new newer passed refused r told state writes some Q one t =
+  memory_between ends live old new newer passed refused r told state writes some Q one t =
       let k = moved new.left newer.left new.offset newer.offset (Unit {0}) Q t in
       let w = left_after old new r.done r.taken r.steps k.more k.is in
-      let m = still old new newer r.done told state writes r.made in
-      record {
-        input = w.input;
-        is = w.is;
-        outcome = record {
-          done = r.done;
-          last = [];
-          one = omega arith;
-          more = k.more;
-          course = subst (λ (ss : List Step). Course rules.limits rules.allows rules.aad old.offset w.input ss k.more) (sym (append-nil r.done)) w.course;
-          asked = [];
-          asked_front = front_then [] (questions_of rules.allows rules.aad []) (questions_of rules.allows rules.aad []) refl;
-          told = m.told ∙ ap (folded_over rules.decided old.told) (sym (append-nil (questions_of rules.allows rules.aad r.done)));
-          state = m.state;
-          texts = r.done;
-          texts_are = inr (sym (append-nil r.done), refl);
-          written = m.written;
-          due = λ none. something_left old.left new.left r.taken.bytes k.more r.taken.taken k.is some;
-          stands = λ one. absurd (one refl);
-          behind = λ one. absurd (one refl);
-          between = λ none. stands_in old new newer (Unit {0}) w.input r.taken.bytes r.taken.taken k w.stop;
-          one_due = λ none. takes_one old new newer w.input Q t (one t.bytes t.has) w.stop;
-        };
-      }
+      between ends live rules old newer (Err Memory) r.done (no_memory k.taken) k.more k.rest refl refl refl w.input w.is w.course k.whole
+      (known _ _ old.left (λ b left none. left (k.whole ∙ none)) (something_left old.left new.left r.taken.bytes k.more r.taken.taken k.is some), one t.bytes t.has)
+      (known_before (newer.left ≡ Some k.rest) old.left new.left r.taken.bytes r.taken.taken (k.behind tt))
+      (still old new newer r.done told state writes r.made) (rest_stands old new newer (Unit {0}) w.input k w.stop) refl tt r.shapes
 
   -- the fault of the bytes, or Memory of the reader
-  pub answer_read : {E : Type 0} (ends : E → Bool) (old new newer : GateState T S) (passed refused : ℕ) → Reached rules old new passed refused
+  pub answer_read : {E : Type 0} (ends : E → Bool) (live : Bool) (old new newer : GateState T S) (passed refused : ℕ) → Reached rules old new passed refused
       → newer.told ≡ new.told → newer.state ≡ new.state → newer.written ≡ new.written → (f : GateFault E) → IsReadFault ends rules.limits.nesting new.left newer.left new.offset newer.offset f
-      → (new.left ≡ Some [] → f ≢ Memory) → Answers ends rules old newer (Err f)
-  answer_read ends old new newer passed refused r told state writes (Decode e) d some =
+      → (new.left ≡ Some [] → f ≢ Memory) → Ran ends live rules old newer (Err f)
+  answer_read {E} ends live old new newer passed refused r told state writes (Decode e) d some =
       let k = partly new.left newer.left new.offset newer.offset e d.3 in
       let w = left_after old new r.done r.taken r.steps k.more k.is in
-      record {
-        input = w.input;
-        is = w.is;
-        outcome = record {
-          steps = r.done;
-          more = k.more;
-          course = w.course;
-          made = still old new newer r.done told state writes r.made;
-          no_memory = d.0;
-          fault = fault_from ends rules.limits.nesting old.left new.left r.taken.bytes k.more old.offset new.offset e r.taken.taken k.is r.taken.grown d.1;
-          behind = (let s = w.stop in end_behind ends (new.offset < newer.offset) (old.offset + length w.input < newer.offset + length k.more)
-              old.left new.left r.taken.bytes e r.taken.taken (λ less. omega arith) d.2);
-          stands = stands_in old new newer (IsNoReaderFault e) w.input r.taken.bytes r.taken.taken k w.stop;
-        };
-      }
-  answer_read ends old new newer passed refused r told state writes Write d some = absurd d
-  answer_read ends old new newer passed refused r told state writes Memory d some = memory_between ends old new newer passed refused r told state writes (λ none. some none refl) HoldsOne (λ b one. one) d
+      let fault : IfKnown old.left (λ b. IsFaultOf ends rules.limits.nesting (old.offset + length b) (k.taken ++ k.rest) e) =
+      subst (λ (z : List ℕ). IfKnown old.left (λ b. IsFaultOf ends rules.limits.nesting (old.offset + length b) z e)) k.whole
+      (fault_from ends rules.limits.nesting old.left new.left r.taken.bytes k.more old.offset new.offset e r.taken.taken k.is r.taken.grown d.1) in
+      between ends live rules old newer (Err (Decode e)) r.done (unreadable e k.taken) k.more k.rest refl refl refl w.input w.is w.course k.whole (
+        d.0,
+        known _ _ old.left (λ b f. of_bytes ends rules.limits.nesting (old.offset + length b) (k.taken ++ k.rest) e f) fault,
+        end_behind ends (new.offset < newer.offset) (k.taken ≢ []) old.left new.left r.taken.bytes e r.taken.taken (λ less none. (let l : length k.taken ≡ 0 = ap length none in let g = k.grown in omega arith)) d.2,
+      )
+      (λ is. known_before (newer.left ≡ Some k.rest) old.left new.left r.taken.bytes r.taken.taken (k.behind is))
+      (still old new newer r.done told state writes r.made) (rest_stands old new newer (IsNoReaderFault e) w.input k w.stop) refl fault r.shapes
+  answer_read ends live old new newer passed refused r told state writes Write d some = absurd d
+  answer_read ends live old new newer passed refused r told state writes Memory d some = memory_between ends live old new newer passed refused r told state writes (λ none. some none refl) HoldsOne (λ b one. one) d
 
   -- Memory, if the judge was told a beginning of the questions about one more message
-  memory_asking : {E : Type 0} (ends : E → Bool) (old new newer : GateState T S) (passed refused : ℕ) → Reached rules old new passed refused
+  memory_asking : {E : Type 0} (ends : E → Bool) (live : Bool) (old new newer : GateState T S) (passed refused : ℕ) → Reached rules old new passed refused
       → (v : Tree) (t : Moves new.left newer.left new.offset newer.offset (λ (b : List ℕ). Reads b rules.limits.nesting v)) → Half (item_rules_of rules) t.bytes v (item_sight_of new) (item_sight_of newer)
-      → newer.state ≡ new.state → newer.written ≡ new.written → Answers ends rules old newer (Err Memory)
+      → newer.state ≡ new.state → newer.written ≡ new.written → Ran ends live rules old newer (Err Memory)
   unfolding judged_step step_at
-  memory_asking ends old new newer passed refused r v t h state writes =
+  memory_asking ends live old new newer passed refused r v t h state writes =
       let s = judged_step (passed + refused + 1) new.offset t.bytes v h.message in
-      let f = further rules old new newer passed refused r v t (judged h.message) (judged_by (first_no rules.allows (questions h.message rules.aad))) h.is refl in
+      let f = further rules old new newer passed refused r v t (judged h.message) (judged_by (first_no rules.allows (questions h.message rules.aad))) h.is refl (answers_name rules.limits v (first_no rules.allows (questions h.message rules.aad))) in
       let w = left_after old newer (r.done ++ s ∷ []) f.taken f.steps (rest_of newer.left) (rest_known newer.left) in
-      let all : questions_of rules.allows rules.aad (s ∷ []) ≡ h.part.front ++ h.part.next ∷ h.part.more = questions_then rules [] s ∙ h.part.whole in
       record {
         input = w.input;
         is = w.is;
-        outcome = record {
-          done = r.done;
-          last = s ∷ [];
-          one = omega arith;
-          more = rest_of newer.left;
-          course = w.course;
-          asked = h.part.front;
-          asked_front = front_then h.part.front (h.part.next ∷ h.part.more) (questions_of rules.allows rules.aad (s ∷ [])) all;
-          told = h.part.tells ∙ ap (λ z. folded_over rules.decided z h.part.front) r.made.told
-              ∙ sym (folded_append rules.decided old.told (questions_of rules.allows rules.aad r.done) h.part.front);
-          state = state ∙ r.made.state;
-          texts = r.done;
-          texts_are = inl (refl, λ whole. not_whole h.part.front h.part.more h.part.next (whole ∙ all));
-          written = subst (λ (z : Option (List ℕ)). Appends old.written z (output_of rules.allows rules.aad r.done)) (sym writes) r.made.written;
-          due = λ none. cc;
-          stands = λ one. w.stop;
-          behind = λ one. w.behind;
-          between = λ none. cc;
-          one_due = λ none. cc;
-        };
+        run = record { done = r.done; ending = within s (asking h.part.front); rest = rest_of newer.left };
+        course = w.course;
+        ends_at = (front_then h.part.front (h.part.next ∷ h.part.more) (asked_of rules.allows rules.aad (judged h.message)) h.part.whole, λ whole. not_whole h.part.front h.part.more h.part.next (whole ∙ h.part.whole));
+        asked = h.part.tells ∙ ap (λ z. folded_over rules.decided z h.part.front) r.made.told
+            ∙ sym (folded_append rules.decided old.told (questions_of rules.allows rules.aad r.done) h.part.front);
+        noted = state ∙ r.made.state;
+        written = subst (λ (z : List ℕ). Appends old.written newer.written z) (sym (append-nil (output_of rules.allows rules.aad r.done)))
+            (subst (λ (z : Option (List ℕ)). Appends old.written z (output_of rules.allows rules.aad r.done)) (sym writes) r.made.written);
+        returned = refl;
+        stands = w.stop;
+        left = w.behind;
+        fault = tt;
+        shapes = f.shapes;
       }
 
   -- Write, in the encoding of one more message
-  write_within : {E : Type 0} (ends : E → Bool) (old new newer : GateState T S) (passed refused : ℕ) → Reached rules old new passed refused
+  write_within : {E : Type 0} (ends : E → Bool) (live : Bool) (old new newer : GateState T S) (passed refused : ℕ) → Reached rules old new passed refused
       → (v : Tree) (t : Moves new.left newer.left new.offset newer.offset (λ (b : List ℕ). Reads b rules.limits.nesting v)) → HalfWritten (item_rules_of rules) t.bytes v (item_sight_of new) (item_sight_of newer)
-      → newer.state ≡ new.state → Answers ends rules old newer (Err Write)
+      → newer.state ≡ new.state → Ran ends live rules old newer (Err Write)
   unfolding judged_step step_at
-  write_within ends old new newer passed refused r v t h state =
+  write_within ends live old new newer passed refused r v t h state =
       let s = judged_step (passed + refused + 1) new.offset t.bytes v h.message in
-      let f = further rules old new newer passed refused r v t (judged h.message) (judged_by (first_no rules.allows (questions h.message rules.aad))) h.is refl in
+      let f = further rules old new newer passed refused r v t (judged h.message) (judged_by (first_no rules.allows (questions h.message rules.aad))) h.is refl (answers_name rules.limits v (first_no rules.allows (questions h.message rules.aad))) in
       let w = left_after old newer (r.done ++ s ∷ []) f.taken f.steps (rest_of newer.left) (rest_known newer.left) in
       record {
         input = w.input;
         is = w.is;
-        outcome = record {
-          done = r.done;
-          last = s;
-          more = rest_of newer.left;
-          course = w.course;
-          passed = h.passed;
-          told = told_then rules old.told new.told newer.told r.done s r.made.told h.tells;
-          state = state ∙ r.made.state;
-          front = h.front;
-          front_is = h.front_is;
-          written = Appends-trans old.written new.written newer.written (output_of rules.allows rules.aad r.done) h.front r.made.written h.writes;
-          stands = w.stop;
-          behind = w.behind;
-        };
+        run = record { done = r.done; ending = within s (writing h.front); rest = rest_of newer.left };
+        course = w.course;
+        ends_at = (h.passed, subst (λ (z : List ℕ). IsFront h.front z) (ap (λ z. cond z (text_of (judged h.message)) []) h.passed) h.front_is);
+        asked = h.tells ∙ ap (λ z. folded_over rules.decided z (asked_of rules.allows rules.aad (judged h.message))) r.made.told
+            ∙ sym (folded_append rules.decided old.told (questions_of rules.allows rules.aad r.done) (asked_of rules.allows rules.aad (judged h.message)));
+        noted = state ∙ r.made.state;
+        written = Appends-trans old.written new.written newer.written (output_of rules.allows rules.aad r.done) h.front r.made.written h.writes;
+        returned = refl;
+        stands = w.stop;
+        left = w.behind;
+        fault = tt;
+        shapes = f.shapes;
       }
 
   -- the item failed
-  pub answer_item : {E : Type 0} (ends : E → Bool) (old new newer : GateState T S) (passed refused : ℕ) → Reached rules old new passed refused
+  pub answer_item : {E : Type 0} (ends : E → Bool) (live : Bool) (old new newer : GateState T S) (passed refused : ℕ) → Reached rules old new passed refused
       → (v : Tree) (t : Moves new.left newer.left new.offset newer.offset (λ (b : List ℕ). Reads b rules.limits.nesting v)) → (f : ItemFault)
-      → ItemFails (item_rules_of rules) t.bytes v (item_sight_of new) (item_sight_of newer) f → newer.state ≡ new.state → Answers ends rules old newer (Err (stopped_by f))
-  answer_item ends old new newer passed refused r v t fault.Write h state = write_within ends old new newer passed refused r v t h state
-  answer_item ends old new newer passed refused r v t fault.Memory (writes, inl told) state =
-      memory_between ends old new newer passed refused r told state writes (λ none. nothing_read rules.limits.nesting new.left newer.left new.offset newer.offset v none t)
+      → ItemFails (item_rules_of rules) t.bytes v (item_sight_of new) (item_sight_of newer) f → newer.state ≡ new.state → Ran ends live rules old newer (Err (stopped_by f))
+  answer_item ends live old new newer passed refused r v t fault.Write h state = write_within ends live old new newer passed refused r v t h state
+  answer_item ends live old new newer passed refused r v t fault.Memory (writes, inl told) state =
+      memory_between ends live old new newer passed refused r told state writes (λ none. nothing_read rules.limits.nesting new.left newer.left new.offset newer.offset v none t)
       (λ (b : List ℕ). Reads b rules.limits.nesting v) (λ b read. read_one b rules.limits.nesting v read) t
-  answer_item ends old new newer passed refused r v t fault.Memory (writes, inr half) state = memory_asking ends old new newer passed refused r v t half state writes
+  answer_item ends live old new newer passed refused r v t fault.Memory (writes, inr half) state = memory_asking ends live old new newer passed refused r v t half state writes
 
   -- Memory, if the item went through and the report refused its entry
-  pub answer_noting : {E : Type 0} (ends : E → Bool) (old new newer : GateState T S) (passed refused : ℕ) → Reached rules old new passed refused
+  pub answer_noting : {E : Type 0} (ends : E → Bool) (live : Bool) (old new newer : GateState T S) (passed refused : ℕ) → Reached rules old new passed refused
       → (v : Tree) (t : Moves new.left newer.left new.offset newer.offset (λ (b : List ℕ). Reads b rules.limits.nesting v)) → (verdict : Verdict)
-      → WentThrough (item_rules_of rules) t.bytes v (item_sight_of new) (item_sight_of newer) verdict → newer.state ≡ new.state → Answers ends rules old newer (Err Memory)
+      → WentThrough (item_rules_of rules) t.bytes v (item_sight_of new) (item_sight_of newer) verdict → newer.state ≡ new.state → Ran ends live rules old newer (Err Memory)
   unfolding step_at
-  answer_noting ends old new newer passed refused r v t verdict k state =
+  answer_noting ends live old new newer passed refused r v t verdict k state =
       let s = step_at new.offset t.bytes v k.finding (entry_at (passed + refused + 1) new.offset verdict) in
-      let f = further rules old new newer passed refused r v t k.finding verdict k.finds k.verdict in
+      let f = further rules old new newer passed refused r v t k.finding verdict k.finds k.verdict k.shape in
       let w = left_after old newer (r.done ++ s ∷ []) f.taken f.steps (rest_of newer.left) (rest_known newer.left) in
       record {
         input = w.input;
         is = w.is;
-        outcome = record {
-          done = r.done;
-          last = s ∷ [];
-          one = omega arith;
-          more = rest_of newer.left;
-          course = w.course;
-          asked = questions_of rules.allows rules.aad (s ∷ []);
-          asked_front = whole_front (questions_of rules.allows rules.aad (s ∷ []));
-          told = told_then rules old.told new.told newer.told r.done s r.made.told k.tells
-              ∙ ap (folded_over rules.decided old.told) (flat_map-append (λ s. asked_of rules.allows rules.aad s.finding) r.done (s ∷ []));
-          state = state ∙ r.made.state;
-          texts = r.done ++ s ∷ [];
-          texts_are = inr (refl, refl);
-          written = written_then old new newer r.done s r.made.written k.writes;
-          due = λ none. cc;
-          stands = λ one. w.stop;
-          behind = λ one. w.behind;
-          between = λ none. cc;
-          one_due = λ none. cc;
-        };
+        run = record { done = r.done; ending = within s noting; rest = rest_of newer.left };
+        course = w.course;
+        ends_at = tt;
+        asked = k.tells ∙ ap (λ z. folded_over rules.decided z (asked_of rules.allows rules.aad k.finding)) r.made.told
+            ∙ sym (folded_append rules.decided old.told (questions_of rules.allows rules.aad r.done) (asked_of rules.allows rules.aad k.finding));
+        noted = state ∙ r.made.state;
+        written = Appends-trans old.written new.written newer.written (output_of rules.allows rules.aad r.done) (written_of rules.allows rules.aad k.finding) r.made.written k.writes;
+        returned = refl;
+        stands = w.stop;
+        left = w.behind;
+        fault = tt;
+        shapes = f.shapes;
       }
+
+  -- a step was made, if so many were counted
+  some_done : (old new : GateState T S) (passed refused : ℕ) (r : Reached rules old new passed refused) → 0 < passed + refused → r.done ≢ []
+  some_done old new passed refused r some none =
+      let p : passed ≡ 0 = r.passed_is ∙ ap (passed_count rules.allows rules.aad) none in
+      let q : refused ≡ 0 = r.refused_is ∙ ap (refused_count rules.allows rules.aad) none in
+      omega arith
+
+  -- a live gate: all steps so far were made, and what passed could not be handed on
+  pub answer_unflushed : {E : Type 0} (ends : E → Bool) (live : Bool) (old new : GateState T S) (passed refused : ℕ) → live ≡ true → 0 < passed + refused → Reached rules old new passed refused
+      → Ran ends live rules old new (Err Write)
+  answer_unflushed ends live old new passed refused is some r =
+      let w = left_after old new r.done r.taken r.steps (rest_of new.left) (rest_known new.left) in
+      between ends live rules old new (Err Write) r.done unflushed (rest_of new.left) (rest_of new.left) refl refl refl w.input w.is w.course refl (is, some_done old new passed refused r some)
+      (rest_told old.left new.left r.taken.bytes r.taken.taken) r.made w.stop refl tt r.shapes
+
+  -- steps that were made stay made if the output is flushed, and the report stays as it was
+  pub reached_flushed : (old new newer : GateState T S) (passed refused : ℕ) → Reached rules old new passed refused → newer.told ≡ new.told → newer.state ≡ new.state
+      → Keeps new.written newer.written → newer.offset ≡ new.offset → newer.left ≡ new.left → Reached rules old newer passed refused
+  reached_flushed old new newer passed refused r told state kept offset left = record {
+    done = r.done;
+    taken = record {
+      bytes = r.taken.bytes;
+      has = r.taken.has;
+      taken = subst (λ (l : Option (List ℕ)). Consumes old.left l r.taken.bytes) (sym left) r.taken.taken;
+      grown = offset ∙ r.taken.grown;
+    };
+    steps = r.steps;
+    shapes = r.shapes;
+    made = record {
+      told = told ∙ r.made.told;
+      state = state ∙ r.made.state;
+      written = flushed old.written new.written newer.written (output_of rules.allows rules.aad r.done) kept r.made.written;
+    };
+    passed_is = r.passed_is;
+    refused_is = r.refused_is;
+  }
 
 -- if nothing is left, the fault is an end at once, a failure of the reader, or an offset that grows
 -- too large
@@ -448,20 +481,6 @@ nothing_fails ends k p p' de.TooLong d m small = absurd (let l : 2 ^ 64 ≤ p + 
 pub same_entry : (n m o p : ℕ) (v : Verdict) → n ≡ m → o ≡ p → (let e : Entry = record { number = n; offset = o; verdict = v } in e) ≡ entry_at m p v
 unfolding entry_at
 same_entry n m o p v a b = rw (a, b) refl
-
--- if no byte is left at the call, none was taken
-pub nothing_taken : {T S : Type 0} (rules : Rules T S) (old new : GateState T S) (n : ℕ) {m : ℕ} → Reached rules old new n m → old.left ≡ Some [] → (new.left ≡ Some []) × (new.offset ≡ old.offset)
-nothing_taken rules old new n r e = go new.left r.taken.bytes (subst (λ (l : Option (List ℕ)). Consumes l new.left r.taken.bytes) e r.taken.taken) r.taken.grown
-  where
-    go : (l : Option (List ℕ)) (b : List ℕ) → Consumes (Some []) l b → new.offset ≡ old.offset + length b → (l ≡ Some []) × (new.offset ≡ old.offset)
-    go None b c g = absurd c
-    go (Some xs) b c g =
-        let s : 0 ≡ length b + length xs = ap length c ∙ length-append b xs in
-        (ap Some (empty xs (omega arith)), omega arith)
-      where
-        empty : (xs : List ℕ) → length xs ≡ 0 → xs ≡ []
-        empty [] e = refl
-        empty (x ∷ xs) e = absurd (omega arith)
 
 -- neither an end at once nor a failure of the reader is left
 pub nothing_answer : {E : Type 0} {X : Type 0} (ends : E → Bool) (p p' : ℕ) (f : Error E) (failed failed' : ℕ) → ((at_end ends f ≡ true) × (p' ≡ p)) ⊎ ((x : E) × (f ≡ de.Io x) × (ends x ≡ false))

@@ -10,7 +10,7 @@ use Rattle.ciborium.proofs.Excludes.{excludes}
 use Rattle.coset_headers.proofs.Entered.{bool_cases}
 use Rattle.coset_headers.proofs.Sound.{reads_sound, sound_reads}
 use Rattle.cose_gate_core.specs.Questions.{Question, MessageFields, tagged_tree, message_text}
-use Rattle.cose_gate_core.specs.Findings.{Finding, judged, barred, excluded, Bounds, IsJudged, Finds}
+use Rattle.cose_gate_core.specs.Findings.{Finding, judged, barred, Bounds, IsJudged, Finds}
 use Rattle.cose_gate_core.specs.Run.{Step, Run, passes, written_of, output_of}
 use Rattle.cose_gate_core.proofs.Rewritten.{rewritten}
 use Rattle.cose_gate_core.specs.Anew.{bytes_of}
@@ -35,7 +35,6 @@ module _ (l : Bounds) (allows : Question → Bool) (aad : List ℕ) where
   wrote : (b : List ℕ) (t : Tree) (f : Finding) → Finds l b t f → Reads b l.nesting t → All IsByte b → length b < 2 ^ 64 → Wrote f
   wrote b t (judged m) h r low few = wrote_judged b t m h.0 r low few (bool_cases (passes allows aad (judged m)))
   wrote b t (barred q) h r low few = nothing refl refl
-  wrote b t (excluded m q) h r low few = nothing refl refl
 
   record OutputOf (at : ℕ) (ss : List Step) : Type 0 where
     items : List Item

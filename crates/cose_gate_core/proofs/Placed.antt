@@ -76,7 +76,7 @@ stand_same n at (s ∷ ss) h =
 module _ (limits : Bounds) (allows : Question → Bool) (aad : List ℕ) where
   -- what is true of a step wherever it is
   abbrev pub IsStep : Step → Type 0
-  IsStep s = Reads s.item.bytes limits.nesting s.item.value × Finds limits s.item.bytes s.item.value s.finding × IsVerdict limits allows aad s.item.value s.finding s.entry.verdict
+  IsStep s = Reads s.item.bytes limits.nesting s.item.value × Finds limits s.item.bytes s.item.value s.finding × IsVerdict allows aad s.finding s.entry.verdict
 
   abbrev pub AllSteps : List Step → Type 0
   AllSteps [] = Unit {0}

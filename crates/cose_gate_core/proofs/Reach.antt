@@ -15,9 +15,11 @@ use Rattle.cose_gate_core.specs.declared.report.Entry.{Entry}
 use Rattle.cose_gate_core.specs.declared.report.Verdict.{Verdict}
 use Rattle.cose_gate_core.specs.Questions.{Question, questions}
 use Rattle.cose_gate_core.specs.Asked.{first_no, folded_over}
-use Rattle.cose_gate_core.specs.Findings.{Finding, judged, barred, excluded, not_tagged, encrypted, other_tag, shape, detached, no_signature, Bounds, Finds}
+use Rattle.cose_gate_core.specs.Findings.{Finding, judged, barred, not_tagged, encrypted, other_tag, shape, detached, no_signature, not_shortest, Bounds, Finds}
 use Rattle.cose_gate_core.specs.Run.{Step, Steps, IsVerdict, judged_by, has_passed, passes, asked_of, written_of, questions_of, output_of, entries_of}
-use Rattle.cose_gate_core.specs.Outcome.{Rules, GateState, Reached}
+use Rattle.cose_gate_core.specs.Misshapen.{NamesShape, NamesShapes}
+use Rattle.cose_gate_core.specs.Outcome.{Rules, GateState}
+use Rattle.cose_gate_core.specs.Next.{Reached}
 
 -- lists
 pub folded_append : {S X : Type 0} (step : S → X → S) (s : S) (xs ys : List X) → folded_over step s (xs ++ ys) ≡ folded_over step (folded_over step s xs) ys
@@ -74,30 +76,36 @@ item_grows k l l' p p' v t = let s = reads_some k t.bytes v t.has in let g = t.g
 
 module _ (limits : Bounds) (allows : Question → Bool) (aad : List ℕ) where
   -- a verdict has passed exactly when what is found passes
-  pub verdict_passes : (t : Tree) (f : Finding) (v : Verdict) → IsVerdict limits allows aad t f v → has_passed v ≡ passes allows aad f
-  verdict_passes t (judged m) v e = ap has_passed e ∙ each (first_no allows (questions m aad))
+  pub verdict_passes : (f : Finding) (v : Verdict) → IsVerdict allows aad f v → has_passed v ≡ passes allows aad f
+  verdict_passes (judged m) v e = ap has_passed e ∙ each (first_no allows (questions m aad))
     where
       each : (o : Option ℕ) → has_passed (judged_by o) ≡ is_none o
       each None = refl
       each (Some n) = refl
-  verdict_passes t (barred not_tagged) v e = ap has_passed e
-  verdict_passes t (barred encrypted) v e = ap has_passed e
-  verdict_passes t (barred (other_tag n)) v e = ap has_passed e
-  verdict_passes t (barred shape) v e = ap has_passed e.1
-  verdict_passes t (barred detached) v e = ap has_passed e
-  verdict_passes t (barred no_signature) v e = ap has_passed e
-  verdict_passes t (excluded m r) v e = ap has_passed e
+  verdict_passes (barred not_tagged) v e = ap has_passed e
+  verdict_passes (barred encrypted) v e = ap has_passed e
+  verdict_passes (barred (other_tag n)) v e = ap has_passed e
+  verdict_passes (barred shape) v e = ap has_passed e.1
+  verdict_passes (barred detached) v e = ap has_passed e
+  verdict_passes (barred no_signature) v e = ap has_passed e
+  verdict_passes (barred not_shortest) v e = ap has_passed e
 
   steps_then : (n : ℕ) (ss : List Step) (s : Step) → Steps limits allows aad n ss → Finds limits s.item.bytes s.item.value s.finding → s.entry.number ≡ n + length ss → s.entry.offset ≡ s.item.offset
-      → IsVerdict limits allows aad s.item.value s.finding s.entry.verdict → Steps limits allows aad n (ss ++ s ∷ [])
+      → IsVerdict allows aad s.finding s.entry.verdict → Steps limits allows aad n (ss ++ s ∷ [])
   steps_then n [] s a f e o v = (f, omega arith, o, v, tt)
   steps_then n (x ∷ xs) s a f e o v = (a.0, a.1, a.2, a.3, steps_then (n + 1) xs s a.4 f (omega arith) o v)
+
+-- the shapes of one step more
+pub shapes_then : (limits : Bounds) (ss : List Step) (s : Step) → NamesShapes limits ss → NamesShape limits s.item.value s.entry.verdict → NamesShapes limits (ss ++ s ∷ [])
+shapes_then limits [] s n m = (m, tt)
+shapes_then limits (x ∷ xs) s n m = (n.0, shapes_then limits xs s n.1 m)
 
 pub reached_start : {T S : Type 0} (rules : Rules T S) (seen : GateState T S) → Reached rules seen seen 0 0
 reached_start rules seen = record {
   done = [];
   taken = record { bytes = []; has = refl; taken = Consumes-nil seen.left; grown = omega arith };
   steps = tt;
+  shapes = tt;
   made = record { told = refl; state = refl; written = Appends-nil seen.written };
   passed_is = refl;
   refused_is = refl;
@@ -135,12 +143,13 @@ module _ {T S : Type 0} (rules : Rules T S) where
   pub record Further (old newer : GateState T S) (done : List Step) (s : Step) : Type 0 where
     pub taken : Moves old.left newer.left old.offset newer.offset (λ (b : List ℕ). SequenceWithin rules.limits.nesting old.offset b (map (λ s. s.item) (done ++ s ∷ [])) [])
     pub steps : Steps rules.limits rules.allows rules.aad 1 (done ++ s ∷ [])
+    pub shapes : NamesShapes rules.limits (done ++ s ∷ [])
 
   pub further : (old new newer : GateState T S) (passed refused : ℕ) (r : Reached rules old new passed refused)
-      (v : Tree) (t : Moves new.left newer.left new.offset newer.offset (λ (b : List ℕ). Reads b rules.limits.nesting v)) (f : Finding) (verdict : Verdict) → Finds rules.limits t.bytes v f → IsVerdict rules.limits rules.allows rules.aad v f verdict
+      (v : Tree) (t : Moves new.left newer.left new.offset newer.offset (λ (b : List ℕ). Reads b rules.limits.nesting v)) (f : Finding) (verdict : Verdict) → Finds rules.limits t.bytes v f → IsVerdict rules.allows rules.aad f verdict → NamesShape rules.limits v verdict
       → Further old newer r.done (step_at new.offset t.bytes v f (entry_at (passed + refused + 1) new.offset verdict))
   unfolding step_at entry_at item_at
-  further old new newer passed refused r v t f verdict finds says =
+  further old new newer passed refused r v t f verdict finds says named =
       let s = step_at new.offset t.bytes v f (entry_at (passed + refused + 1) new.offset verdict) in
       let a = r.taken.grown in
       let b = t.grown in
@@ -155,4 +164,5 @@ module _ {T S : Type 0} (rules : Rules T S) where
           grown = omega (arith, length-append r.taken.bytes t.bytes);
         };
         steps = steps_then rules.limits rules.allows rules.aad 1 r.done s r.steps finds (omega arith) refl says;
+        shapes = shapes_then rules.limits r.done s r.shapes named;
       }

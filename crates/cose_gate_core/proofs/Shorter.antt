@@ -5,7 +5,7 @@ use Rattle.ciborium_value.specs.Tree.{Tree}
 use Rattle.ciborium.specs.Front.{Reads}
 use Rattle.coset_headers.proofs.Entered.{bool_cases}
 use Rattle.cose_gate_core.specs.Questions.{Question, MessageFields, message_text}
-use Rattle.cose_gate_core.specs.Findings.{Finding, judged, barred, excluded, Bounds, IsJudged, Finds}
+use Rattle.cose_gate_core.specs.Findings.{Finding, judged, barred, Bounds, IsJudged, Finds}
 use Rattle.cose_gate_core.specs.Run.{Step, Run, passes, written_of, output_of}
 use Rattle.cose_gate_core.specs.Anew.{bytes_of}
 use Rattle.cose_gate_core.specs.Narrow.{IsNarrow, PassedAreNarrow, passed_bytes}
@@ -34,7 +34,6 @@ module _ (l : Bounds) (allows : Question → Bool) (aad : List ℕ) where
   step_less : (b : List ℕ) (t : Tree) (f : Finding) → Finds l b t f → Reads b l.nesting t → All IsByte b → (passes allows aad f ≡ true → IsNarrow b) → IsLess b f
   step_less b t (judged m) h r low narrow = judged_less b t m h.0 r low narrow (bool_cases (passes allows aad (judged m)))
   step_less b t (barred q) h r low narrow = omega arith
-  step_less b t (excluded m q) h r low narrow = omega arith
 
   steps_less : (ss : List Step) → AllSteps l allows aad ss → All IsByte (bytes_of ss) → PassedAreNarrow allows aad ss → length (output_of allows aad ss) ≤ length (passed_bytes allows aad ss)
   steps_less [] a low n = omega arith

@@ -1,5 +1,5 @@
 -- What is found of a value is one, and so is what is asked and written for an input.
-use Rattle.std.proofs.Common.{◌≡◌, ◌≢◌, ◌⊎◌, inl, inr, ℕ, List, [], ◌∷◌, ◌++◌, map, Bool, true, false, Option, None, Some, refl, sym, ap, subst, ◌∙◌, ◌+◌}
+use Rattle.std.proofs.Common.{◌≡◌, ◌≢◌, ◌⊎◌, inl, inr, ℕ, List, [], ◌∷◌, ◌++◌, map, Bool, true, None, Some, refl, sym, ap, subst, ◌∙◌, ◌+◌}
 use Rattle.ciborium_value.specs.Tree.{Tree, tag}
 use Rattle.ciborium.specs.Items.{Item}
 use Rattle.ciborium.proofs.Sequence.{items_once_within}
@@ -7,10 +7,10 @@ use Rattle.coset_labels.specs.Faults.{CoseFault}
 use Rattle.coset_signed.proofs.Excludes.{sign1_not, sign_not}
 use Rattle.coset_signed.proofs.Unique.{sign1_once, sign_once}
 use Rattle.coset_maced.proofs.Unique.{mac0_once, mac0_not, mac_once, mac_not}
-use Rattle.cose_gate_core.specs.Questions.{Question, MessageFields, sign1, mac0, sign, mac, number_of, kind_of, tag_of, payload_of}
-use Rattle.cose_gate_core.specs.Findings.{Finding, judged, barred, excluded, not_tagged, encrypted, other_tag, shape, detached, no_signature, Finds, IsMessageTag, IsEncryptedTag, Bounds, HasMessage, WrongMessage, IsMessage, IsUnsigned}
+use Rattle.cose_gate_core.specs.Questions.{Question, MessageFields, sign1, mac0, sign, mac, number_of, kind_of, tag_of, payload_of, message_text}
+use Rattle.cose_gate_core.specs.Findings.{Finding, judged, barred, not_tagged, encrypted, other_tag, shape, detached, no_signature, not_shortest, Finds, IsMessageTag, IsEncryptedTag, Bounds, HasMessage, IsMessage, IsCarried, IsUnsigned}
+use Rattle.cose_gate_core.specs.Misshapen.{WrongMessage, IsMisshapen}
 use Rattle.cose_gate_core.specs.declared.about.MessageKind.{MessageKind}
-use Rattle.cose_gate_core.specs.declared.report.Refusal.{Refusal}
 use Rattle.cose_gate_core.specs.Run.{Step, Steps, Run, asked_of, written_of, questions_of, output_of}
 use Rattle.cose_gate_core.proofs.TagNumbers.{same_kind, not_both}
 
@@ -27,7 +27,7 @@ group (barred (other_tag n)) = other n
 group (barred shape) = message
 group (barred detached) = message
 group (barred no_signature) = message
-group (excluded m r) = message
+group (barred not_shortest) = message
 
 abbrev InGroup : Tree → Group → Type 0
 InGroup t bare = (n : ℕ) (u : Tree) → t ≢ tag n u
@@ -40,10 +40,10 @@ in_group l b t (judged m) (((u, e, h), p, s), x) = (tag_of m, u, e, (kind_of m, 
 in_group l b t (barred not_tagged) h = h
 in_group l b t (barred encrypted) h = h
 in_group l b t (barred (other_tag n)) h = h
-in_group l b t (barred shape) (f, (k, u, e, w)) = (number_of k, u, e, (k, refl))
+in_group l b t (barred shape) h = h.0
 in_group l b t (barred detached) (m, (u, e, h), p) = (tag_of m, u, e, (kind_of m, refl))
 in_group l b t (barred no_signature) (m, (u, e, h), p, s) = (tag_of m, u, e, (kind_of m, refl))
-in_group l b t (excluded m r) (((u, e, h), p, s), x) = (tag_of m, u, e, (kind_of m, refl))
+in_group l b t (barred not_shortest) (m, ((u, e, h), p, s), x, n) = (tag_of m, u, e, (kind_of m, refl))
 
 same_tag : (t : Tree) (n k : ℕ) (u v : Tree) → t ≡ tag n u → t ≡ tag k v → n ≡ k
 same_tag t n k u v a b = cc
@@ -84,7 +84,7 @@ named (barred (other_tag k)) n = refl
 named (barred shape) n = absurd (n refl)
 named (barred detached) n = absurd (n refl)
 named (barred no_signature) n = absurd (n refl)
-named (excluded m r) n = absurd (n refl)
+named (barred not_shortest) n = absurd (n refl)
 
 is_message : (x : Group) → (x ≡ message) ⊎ (x ≢ message)
 is_message bare = inr (λ e. (let h : bare ≡ message = e in cc))
@@ -117,62 +117,49 @@ no_fault l u (mac0 m) f h w = mac0_not l.nesting u l.layers f w m h
 no_fault l u (sign m) f h w = sign_not l.nesting l.layers u f m w h
 no_fault l u (mac m) f h w = mac_not l.nesting u l.layers f w m h
 
--- what is found of a message, by its payload, whether it has no signature, and the further rule
-abbrev pub message_finding : MessageFields → Option (List ℕ) → Bool → Option Refusal → Finding
-message_finding m None u r = barred detached
-message_finding m (Some p) true r = barred no_signature
-message_finding m (Some p) false None = judged m
-message_finding m (Some p) false (Some r) = excluded m r
+-- what is found of a message: that it has no payload, no signature, that it isn't what would be
+-- written, or that it is judged
+data OfMessage (l : Bounds) (b : List ℕ) (m : MessageFields) : Finding → Type 0 where
+  out : payload_of m ≡ None → OfMessage l b m (barred detached)
+  bare : IsCarried m → IsUnsigned m → OfMessage l b m (barred no_signature)
+  long : IsCarried m → (IsUnsigned m → ⊥) → l.strict ≡ true → b ≢ message_text m → OfMessage l b m (barred not_shortest)
+  good : IsCarried m → (IsUnsigned m → ⊥) → (l.strict ≡ true → b ≡ message_text m) → OfMessage l b m (judged m)
 
-abbrev pub has_none : {A : Type 0} → List A → Bool
-has_none [] = true
-has_none (x ∷ xs) = false
+not_both_carried : (m : MessageFields) → payload_of m ≡ None → IsCarried m → ⊥
+not_both_carried m e (p, f) = let h : None ≡ Some p = sym e ∙ f in cc
 
-abbrev pub is_unsigned : MessageFields → Bool
-is_unsigned (sign1 m) = false
-is_unsigned (mac0 m) = false
-is_unsigned (sign m) = has_none m.signatures
-is_unsigned (mac m) = false
-
--- the finding of an item that is this message
-abbrev pub finding_of : Bounds → List ℕ → MessageFields → Finding
-finding_of l b m = message_finding m (payload_of m) (is_unsigned m) (l.excludes b m)
-
-unsigned_true : (m : MessageFields) → IsUnsigned m → is_unsigned m ≡ true
-unsigned_true (sign1 m) u = absurd u
-unsigned_true (mac0 m) u = absurd u
-unsigned_true (sign m) u = ap has_none u
-unsigned_true (mac m) u = absurd u
-
-not_empty : {A : Type 0} (xs : List A) → xs ≢ [] → has_none xs ≡ false
-not_empty [] n = absurd (n refl)
-not_empty (x ∷ xs) n = refl
-
-unsigned_false : (m : MessageFields) → (IsUnsigned m → ⊥) → is_unsigned m ≡ false
-unsigned_false (sign1 m) n = refl
-unsigned_false (mac0 m) n = refl
-unsigned_false (sign m) n = not_empty m.signatures n
-unsigned_false (mac m) n = refl
+of_message_once : (l : Bounds) (b : List ℕ) (m : MessageFields) (f g : Finding) → OfMessage l b m f → OfMessage l b m g → f ≡ g
+of_message_once l b m _ _ (out e) (out d) = refl
+of_message_once l b m _ _ (out e) (bare c u) = absurd (not_both_carried m e c)
+of_message_once l b m _ _ (out e) (long c u s n) = absurd (not_both_carried m e c)
+of_message_once l b m _ _ (out e) (good c u s) = absurd (not_both_carried m e c)
+of_message_once l b m _ _ (bare c u) (out e) = absurd (not_both_carried m e c)
+of_message_once l b m _ _ (bare c u) (bare d v) = refl
+of_message_once l b m _ _ (bare c u) (long d v s n) = absurd (v u)
+of_message_once l b m _ _ (bare c u) (good d v s) = absurd (v u)
+of_message_once l b m _ _ (long c u s n) (out e) = absurd (not_both_carried m e c)
+of_message_once l b m _ _ (long c u s n) (bare d v) = absurd (u v)
+of_message_once l b m _ _ (long c u s n) (long d v t k) = refl
+of_message_once l b m _ _ (long c u s n) (good d v t) = absurd (n (t s))
+of_message_once l b m _ _ (good c u s) (out e) = absurd (not_both_carried m e c)
+of_message_once l b m _ _ (good c u s) (bare d v) = absurd (u v)
+of_message_once l b m _ _ (good c u s) (long d v t n) = absurd (n (s t))
+of_message_once l b m _ _ (good c u s) (good d v t) = refl
 
 -- what is found under the tag of a message
 data Body (l : Bounds) (b : List ℕ) (t : Tree) (f : Finding) : Type 0 where
-  fits : (m : MessageFields) → IsMessage l t m → f ≡ finding_of l b m → Body l b t f
-  wrong : (k : MessageKind) (u : Tree) (e : CoseFault) → t ≡ tag (number_of k) u → WrongMessage l k u e → f ≡ barred shape → Body l b t f
-
-of_three : (l : Bounds) (b : List ℕ) (m : MessageFields) (p : Option (List ℕ)) (u : Bool) (r : Option Refusal) → payload_of m ≡ p → is_unsigned m ≡ u → l.excludes b m ≡ r
-    → message_finding m p u r ≡ finding_of l b m
-of_three l b m p u r e f g =
-    sym (ap (λ z. message_finding m z (is_unsigned m) (l.excludes b m)) e ∙ ap (λ z. message_finding m p z (l.excludes b m)) f ∙ ap (message_finding m p u) g)
+  fits : (m : MessageFields) → IsMessage l t m → OfMessage l b m f → Body l b t f
+  wrong : ((m : MessageFields) → IsMessage l t m → ⊥) → f ≡ barred shape → Body l b t f
 
 body : (l : Bounds) (b : List ℕ) (t : Tree) (f : Finding) → Finds l b t f → group f ≡ message → Body l b t f
-body l b t (judged m) ((i, (p, e), s), x) g = fits m i (of_three l b m (Some p) false None e (unsigned_false m s) x)
+body l b t (judged m) ((i, c, u), s) g = fits m i (good c u s)
 body l b t (barred not_tagged) h g = cc
 body l b t (barred encrypted) h g = cc
 body l b t (barred (other_tag n)) h g = cc
-body l b t (barred shape) (f, (k, u, e, w)) g = wrong k u f e w refl
-body l b t (barred detached) (m, i, e) g = fits m i (ap (λ z. message_finding m z (is_unsigned m) (l.excludes b m)) (sym e))
-body l b t (barred no_signature) (m, i, (p, e), s) g = fits m i (of_three l b m (Some p) true (l.excludes b m) e (unsigned_true m s) refl)
-body l b t (excluded m r) ((i, (p, e), s), x) g = fits m i (of_three l b m (Some p) false (Some r) e (unsigned_false m s) x)
+body l b t (barred shape) h g = wrong h.1 refl
+body l b t (barred detached) (m, i, e) g = fits m i (out e)
+body l b t (barred no_signature) (m, i, c, u) g = fits m i (bare c u)
+body l b t (barred not_shortest) (m, (i, c, u), s, n) g = fits m i (long c u s n)
 
 module _ (l : Bounds) (t : Tree) where
   same_fields : (a b : MessageFields) → IsMessage l t a → IsMessage l t b → a ≡ b
@@ -180,16 +167,16 @@ module _ (l : Bounds) (t : Tree) where
       let kinds : kind_of a ≡ kind_of b = same_kind (kind_of a) (kind_of b) (same_tag t (tag_of a) (tag_of b) u v p q) in
       same_message l u a b kinds h (subst (λ z. HasMessage l z b) (sym (same_body t (tag_of a) (tag_of b) u v p q)) g)
 
-  no_wrong : (m : MessageFields) (k : MessageKind) (v : Tree) (e : CoseFault) → IsMessage l t m → t ≡ tag (number_of k) v → WrongMessage l k v e → ⊥
-  no_wrong m k v e (u, p, h) q w =
+  pub no_message : (e : CoseFault) → IsMisshapen l t e → (m : MessageFields) → IsMessage l t m → ⊥
+  no_message e (k, v, q, w) m (u, p, h) =
       let kinds : k ≡ kind_of m = same_kind k (kind_of m) (same_tag t (number_of k) (tag_of m) v u q p) in
       no_fault l v m e (subst (λ z. HasMessage l z m) (same_body t (tag_of m) (number_of k) u v p q) h) (subst (λ j. WrongMessage l j v e) kinds w)
 
 body_once : (l : Bounds) (b : List ℕ) (t : Tree) (f g : Finding) → Body l b t f → Body l b t g → f ≡ g
-body_once l b t f g (fits m i c) (fits n k d) = c ∙ ap (finding_of l b) (same_fields l t m n i k) ∙ sym d
-body_once l b t f g (fits m i c) (wrong k v e q w d) = absurd (no_wrong l t m k v e i q w)
-body_once l b t f g (wrong k v e q w c) (fits m i d) = absurd (no_wrong l t m k v e i q w)
-body_once l b t f g (wrong k u e q w c) (wrong j v x p y d) = c ∙ sym d
+body_once l b t f g (fits m i c) (fits n k d) = of_message_once l b m f g c (subst (λ (z : MessageFields). OfMessage l b z g) (sym (same_fields l t m n i k)) d)
+body_once l b t f g (fits m i c) (wrong none d) = absurd (none m i)
+body_once l b t f g (wrong none c) (fits m i d) = absurd (none m i)
+body_once l b t f g (wrong none c) (wrong neither d) = c ∙ sym d
 
 pub finding_once : (l : Bounds) (b : List ℕ) (t : Tree) (f g : Finding) → Finds l b t f → Finds l b t g → f ≡ g
 finding_once l b t f g h k = by_group (is_message (group f))

@@ -23,7 +23,7 @@ module _ (limits : Bounds) (allows : Question → Bool) (aad : List ℕ) where
     pub finding : made.finding ≡ one.finding
     pub number : made.entry.number ≡ one.entry.number
     pub offset : made.entry.offset ≡ one.entry.offset
-    pub verdict : IsVerdict limits allows aad one.item.value one.finding made.entry.verdict
+    pub verdict : IsVerdict allows aad one.finding made.entry.verdict
 
   abbrev pub Twins : List Step → List Step → Type 0
   Twins [] [] = Unit {0}
@@ -45,7 +45,7 @@ module _ (limits : Bounds) (allows : Question → Bool) (aad : List ℕ) where
   twins_output (c ∷ cs) (s ∷ ss) t =
       ap (λ f. written_of allows aad f ++ output_of allows aad cs) t.0.finding ∙ ap (λ x. written_of allows aad s.finding ++ x) (twins_output cs ss t.1)
 
-  pub twins_entries : (cs ss : List Step) → Twins cs ss → AreEntries limits allows aad ss (entries_of cs)
+  pub twins_entries : (cs ss : List Step) → Twins cs ss → AreEntries allows aad ss (entries_of cs)
   twins_entries [] [] t = tt
   twins_entries [] (s ∷ ss) t = absurd t
   twins_entries (c ∷ cs) [] t = absurd t
@@ -85,7 +85,7 @@ module _ (limits : Bounds) (allows : Question → Bool) (aad : List ℕ) where
     pub left : SequenceWithin limits.nesting place more (map (λ s. s.item) behind) rest
 
   twin : (n at : ℕ) (c s : Step) → c.item ≡ s.item → Finds limits c.item.bytes c.item.value c.finding → c.entry.number ≡ n → c.entry.offset ≡ c.item.offset
-      → IsVerdict limits allows aad c.item.value c.finding c.entry.verdict → Finds limits s.item.bytes s.item.value s.finding → s.entry.number ≡ n → s.entry.offset ≡ s.item.offset
+      → IsVerdict allows aad c.finding c.entry.verdict → Finds limits s.item.bytes s.item.value s.finding → s.entry.number ≡ n → s.entry.offset ≡ s.item.offset
       → Twin c s
   twin n at c s e f a o v g b p =
       let one : c.finding ≡ s.finding =
@@ -95,7 +95,7 @@ module _ (limits : Bounds) (allows : Question → Bool) (aad : List ℕ) where
         finding = one;
         number = a ∙ sym b;
         offset = o ∙ ap (λ (i : Item). i.offset) e ∙ sym p;
-        verdict = subst (λ z. IsVerdict limits allows aad s.item.value z c.entry.verdict) one (subst (λ (i : Item). IsVerdict limits allows aad i.value c.finding c.entry.verdict) e v);
+        verdict = subst (λ z. IsVerdict allows aad z c.entry.verdict) one v;
       }
 
   pub within : (n at : ℕ) (b : List ℕ) (cs ss : List Step) (more rest : List ℕ) → IsUnreadableWithin limits.nesting rest → SequenceWithin limits.nesting at b (map (λ s. s.item) cs) more → SequenceWithin limits.nesting at b (map (λ s. s.item) ss) rest

@@ -5,8 +5,7 @@ use Rattle.cose_gate_core.specs.declared.report.Entry.{Entry}
 use Rattle.cose_gate_core.specs.declared.report.Verdict.{Verdict}
 use Rattle.cose_gate_core.specs.declared.report.Verdict.TheVariants.{Refused}
 use Rattle.cose_gate_core.specs.declared.report.Refusal.TheVariants as refusal
-use Rattle.cose_gate_core.specs.Questions.{Question, MessageFields}
-use Rattle.cose_gate_core.specs.Findings.{Bounds}
+use Rattle.cose_gate_core.specs.Questions.{Question}
 use Rattle.cose_gate_core.specs.Run.{Step, IsVerdict}
 
 -- the bytes of the items, one after another
@@ -50,17 +49,12 @@ pub record EntriesBegin (es fs : List Entry) : Type 0 where
 
 -- the entries of these steps: each has its item's number and offset, and a verdict that stands for
 -- what is found of it; of a shape's fault it isn't said which of the value's faults is named
-abbrev pub AreEntries : Bounds → (Question → Bool) → List ℕ → List Step → List Entry → Type 0
-AreEntries limits allows aad [] [] = Unit {0}
-AreEntries limits allows aad [] (e ∷ es) = ⊥
-AreEntries limits allows aad (s ∷ ss) [] = ⊥
-AreEntries limits allows aad (s ∷ ss) (e ∷ es) =
+abbrev pub AreEntries : (Question → Bool) → List ℕ → List Step → List Entry → Type 0
+AreEntries allows aad [] [] = Unit {0}
+AreEntries allows aad [] (e ∷ es) = ⊥
+AreEntries allows aad (s ∷ ss) [] = ⊥
+AreEntries allows aad (s ∷ ss) (e ∷ es) =
     (e.number ≡ s.entry.number)
     × (e.offset ≡ s.entry.offset)
-    × IsVerdict limits allows aad s.item.value s.finding e.verdict
-    × AreEntries limits allows aad ss es
-
--- what else bars a message doesn't depend on how its item is encoded
-abbrev pub IgnoresSpelling : Bounds → Type 0
-IgnoresSpelling limits =
-    (b c : List ℕ) (m : MessageFields) → limits.excludes b m ≡ limits.excludes c m
+    × IsVerdict allows aad s.finding e.verdict
+    × AreEntries allows aad ss es

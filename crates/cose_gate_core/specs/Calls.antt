@@ -4,20 +4,11 @@ use Rattle.ciborium_ll.specs.Views.{left_of, offset_of}
 use Rattle.ciborium_ll.specs.declared.dec.Decoder.{Decoder}
 use Rattle.ciborium_ll.specs.declared.read.Read.{Ghosts as Reads}
 use Rattle.ciborium_ll.specs.declared.write.Write.{Ghosts as Writes}
-use Rattle.coset_labels.specs.Limits.{nesting_of, layers_of}
-use Rattle.coset_labels.specs.declared.limits.Limits.{Limits}
-use Rattle.cose_gate_core.specs.Findings.{Bounds, plain, only_exact}
+use Rattle.cose_gate_core.specs.Findings.{Bounds}
 use Rattle.cose_gate_core.specs.Outcome.{Rules, GateState}
 use Rattle.cose_gate_core.specs.Passing.{ItemRules, ItemSight}
 use Rattle.cose_gate_core.specs.declared.report.Report.{Ghosts as Reports}
 use Rattle.cose_gate_core.specs.declared.judge.Judge.{Ghosts as Judges}
-
--- the limits that a caller chose, for the gate and for the strict gate
-abbrev pub within : Limits → Bounds
-within limits = plain (nesting_of limits) (layers_of limits)
-
-abbrev pub exact_within : Limits → Bounds
-exact_within limits = only_exact (nesting_of limits) (layers_of limits)
 
 -- what a call of the gate goes by; `P.Report` and `J.Judge` hold the meaning of its report and its
 -- judge, which the bounds of `P` and `J` bring

@@ -1,31 +1,22 @@
 -- What is found of an item before a judge is asked: a message that is judged, or why it is none
 -- (RFC 9052, section 2, has the tags).
-use Rattle.std.specs.Prelude.{◌≡◌, ◌≢◌, ℕ, ◌⊎◌, List, [], Option, Some, None, Bool, true, false, if◌then◌else◌, nat_eq}
-use Rattle.std.specs.Cmp.Lexicographic.{pointwise}
+use Rattle.std.specs.Prelude.{◌≡◌, ◌≢◌, ℕ, ◌⊎◌, List, [], Some, None, Bool, true, false}
 use Rattle.ciborium_value.specs.Tree.{Tree, tag}
-use Rattle.coset_labels.specs.Faults.{CoseFault}
 use Rattle.coset_labels.specs.Limits.{nesting as usual_nesting, layers as usual_layers}
 use Rattle.coset_signed.specs.Shapes.{HasSign1, HasSign}
-use Rattle.coset_signed.specs.Wrong.{WrongSign1, WrongSign}
 use Rattle.coset_maced.specs.Shapes.{HasMac0, HasMac}
-use Rattle.coset_maced.specs.Wrong.{WrongMac0, WrongMac}
 use Rattle.cose_gate_core.specs.Questions.{MessageFields, sign1, mac0, sign, mac, number_of, tag_of, payload_of, message_text}
 use Rattle.cose_gate_core.specs.declared.about.MessageKind.{MessageKind}
-use Rattle.cose_gate_core.specs.declared.about.MessageKind.TheVariants as kind
-use Rattle.cose_gate_core.specs.declared.report.Refusal.{Refusal}
-use Rattle.cose_gate_core.specs.declared.report.Refusal.TheVariants as refusal
 
 -- why an item is not judged
 pub data Reason : Type 0 where
-  not_tagged encrypted shape detached no_signature : Reason
+  not_tagged encrypted shape detached no_signature not_shortest : Reason
   other_tag : ℕ → Reason
 
--- a message about which the judge is asked, an item that is none, or a message that is refused by a
--- further rule before the judge is asked
+-- a message about which the judge is asked, or an item that is none
 pub data Finding : Type 0 where
   judged : MessageFields → Finding
   barred : Reason → Finding
-  excluded : MessageFields → Refusal → Finding
 
 -- the tags of messages that are judged
 abbrev pub IsMessageTag : ℕ → Type 0
@@ -36,38 +27,23 @@ abbrev pub IsEncryptedTag : ℕ → Type 0
 IsEncryptedTag n = (n ≡ 16) ⊎ (n ≡ 96)
 
 -- how many levels an item may open, and anew the one in a protected header; how many protected
--- headers may lie inside one another; and which messages are refused that would else be judged, by
--- the bytes of their item and their fields
+-- headers may lie inside one another; and whether the gate is strict: it judges a message only if
+-- its item already is what would be written
 pub record Bounds : Type 0 where
   pub nesting : ℕ
   pub layers : ℕ
-  pub excludes : List ℕ → MessageFields → Option Refusal
+  pub strict : Bool
 
--- the further rule of a gate, which may be strict: a message is refused whose item isn't already
--- what would be written
-abbrev pub excluded_by : Bool → List ℕ → MessageFields → Option Refusal
-excluded_by false b m = None
-excluded_by true b m =
-    if pointwise nat_eq b (message_text m) then None else Some refusal.NotShortest
-
--- so many levels and layers, and no further rule
-abbrev pub plain : ℕ → ℕ → Bounds
-plain nesting layers = record { nesting = nesting; layers = layers; excludes = λ bytes m. None }
-
--- so many levels and layers, if a message's item has to be what would be written
-abbrev pub only_exact : ℕ → ℕ → Bounds
-only_exact nesting layers = record {
-  nesting = nesting;
-  layers = layers;
-  excludes = λ bytes m. excluded_by true bytes m;
-}
+-- so many levels and layers, for the gate or for the strict gate
+abbrev pub within : ℕ → ℕ → Bool → Bounds
+within nesting layers strict = record { nesting = nesting; layers = layers; strict = strict }
 
 -- the limits if none are chosen, for the gate and for the strict gate
 abbrev pub usual : Bounds
-usual = plain usual_nesting usual_layers
+usual = within usual_nesting usual_layers false
 
 abbrev pub usual_exact : Bounds
-usual_exact = only_exact usual_nesting usual_layers
+usual_exact = within usual_nesting usual_layers true
 
 -- which fields a value has as a message of their kind
 abbrev pub HasMessage : Bounds → Tree → MessageFields → Type 0
@@ -75,13 +51,6 @@ HasMessage limits u (sign1 m) = HasSign1 limits.nesting u m limits.layers
 HasMessage limits u (mac0 m) = HasMac0 limits.nesting u m limits.layers
 HasMessage limits u (sign m) = HasSign limits.nesting u m limits.layers
 HasMessage limits u (mac m) = HasMac limits.nesting u m limits.layers
-
--- which fault a value has as a message of a kind
-abbrev pub WrongMessage : Bounds → MessageKind → Tree → CoseFault → Type 0
-WrongMessage limits kind.Sign1 u f = WrongSign1 limits.nesting u limits.layers f
-WrongMessage limits kind.Mac0 u f = WrongMac0 limits.nesting u limits.layers f
-WrongMessage limits kind.Sign u f = WrongSign limits.nesting u limits.layers f
-WrongMessage limits kind.Mac u f = WrongMac limits.nesting u limits.layers f
 
 -- a tagged message
 abbrev pub IsMessage : Bounds → Tree → MessageFields → Type 0
@@ -102,23 +71,22 @@ IsUnsigned (mac m) = ⊥
 abbrev pub IsJudged : Bounds → Tree → MessageFields → Type 0
 IsJudged limits t m = IsMessage limits t m × IsCarried m × (IsUnsigned m → ⊥)
 
--- a value under the tag of a message that has this fault as one
-abbrev pub IsMisshapen : Bounds → Tree → CoseFault → Type 0
-IsMisshapen limits t f =
-    (k : MessageKind) × (u : Tree) × (t ≡ tag (number_of k) u) × WrongMessage limits k u f
-
-abbrev pub IsBarred : Bounds → Tree → Reason → Type 0
-IsBarred limits t not_tagged = (n : ℕ) (u : Tree) → t ≢ tag n u
-IsBarred limits t encrypted = (n : ℕ) × (u : Tree) × (t ≡ tag n u) × IsEncryptedTag n
-IsBarred limits t (other_tag n) =
+-- an item of these bytes and the value t isn't judged, for this reason
+abbrev pub IsBarred : Bounds → List ℕ → Tree → Reason → Type 0
+IsBarred limits b t not_tagged = (n : ℕ) (u : Tree) → t ≢ tag n u
+IsBarred limits b t encrypted = (n : ℕ) × (u : Tree) × (t ≡ tag n u) × IsEncryptedTag n
+IsBarred limits b t (other_tag n) =
     (u : Tree) × (t ≡ tag n u) × (IsEncryptedTag n → ⊥) × (IsMessageTag n → ⊥)
-IsBarred limits t shape = (f : CoseFault) × IsMisshapen limits t f
-IsBarred limits t detached = (m : MessageFields) × IsMessage limits t m × (payload_of m ≡ None)
-IsBarred limits t no_signature =
+IsBarred limits b t shape = ((n : ℕ) × (u : Tree) × (t ≡ tag n u) × IsMessageTag n)
+    × ((m : MessageFields) → IsMessage limits t m → ⊥)
+IsBarred limits b t detached = (m : MessageFields) × IsMessage limits t m × (payload_of m ≡ None)
+IsBarred limits b t no_signature =
     (m : MessageFields) × IsMessage limits t m × IsCarried m × IsUnsigned m
+IsBarred limits b t not_shortest =
+    (m : MessageFields) × IsJudged limits t m × (limits.strict ≡ true) × (b ≢ message_text m)
 
--- what is found of an item of these bytes and the value t
+-- what is found of such an item
 abbrev pub Finds : Bounds → List ℕ → Tree → Finding → Type 0
-Finds limits b t (judged m) = IsJudged limits t m × (limits.excludes b m ≡ None)
-Finds limits b t (barred r) = IsBarred limits t r
-Finds limits b t (excluded m r) = IsJudged limits t m × (limits.excludes b m ≡ Some r)
+Finds limits b t (judged m) =
+    IsJudged limits t m × (limits.strict ≡ true → b ≡ message_text m)
+Finds limits b t (barred r) = IsBarred limits b t r

@@ -1,8 +1,8 @@
 -- A run over what a run wrote.
-use Rattle.std.specs.Prelude.{◌≡◌, ℕ, ◌≤◌, List, [], flat_map, All, None, Bool, if◌then◌else◌}
+use Rattle.std.specs.Prelude.{◌≡◌, ℕ, List, [], flat_map, All, Bool, if◌then◌else◌}
 use Rattle.cose_gate_core.specs.declared.report.Entry.{Entry}
 use Rattle.cose_gate_core.specs.declared.report.Verdict.TheVariants.{Passed}
-use Rattle.cose_gate_core.specs.Questions.{Question, MessageFields, message_text}
+use Rattle.cose_gate_core.specs.Questions.{Question}
 use Rattle.cose_gate_core.specs.Findings.{Bounds}
 use Rattle.cose_gate_core.specs.Run.{Step, asked_of, passes, questions_of, output_of, entries_of, passed_count, refused_count}
 use Rattle.cose_gate_core.specs.Anew.{AreEntries}
@@ -13,20 +13,6 @@ abbrev pub passed_questions : (Question → Bool) → List ℕ → List Step →
 passed_questions allows aad ss =
     flat_map (λ s. if passes allows aad s.finding then asked_of allows aad s.finding else []) ss
 
--- what the limits `one` let through, `two` let through as it is written: they allow as many levels
--- and layers or more, and exclude no message as it is written that `one` didn't exclude as it was
--- received
-pub record Admits (one two : Bounds) : Type 0 where
-  pub nesting : one.nesting ≤ two.nesting
-  pub layers : one.layers ≤ two.layers
-  pub written : (b : List ℕ) (m : MessageFields) → one.excludes b m ≡ None
-      → two.excludes (message_text m) m ≡ None
-
--- limits that let a message through only if its item is already what is written for it
-abbrev pub ExcludesInexact : Bounds → Type 0
-ExcludesInexact limits =
-    (b : List ℕ) (m : MessageFields) → limits.excludes b m ≡ None → b ≡ message_text m
-
 -- The steps `again`, over what the steps ss wrote and up to `more`, change nothing: nothing is
 -- left, and the same is written. Each entry says Passed, also if it was noted elsewhere; as many
 -- pass as passed, and none is refused. What is asked is what was asked of the messages that passed.
@@ -36,7 +22,7 @@ pub record FixedPoint (limits : Bounds) (allows : Question → Bool) (aad : List
   pub rest : more ≡ []
   pub output : output_of allows aad again ≡ output_of allows aad ss
   pub entries : All (λ e. e.verdict ≡ Passed) (entries_of again)
-  pub noted : (es : List Entry) → AreEntries limits allows aad again es
+  pub noted : (es : List Entry) → AreEntries allows aad again es
       → All (λ e. e.verdict ≡ Passed) es
   pub passed : passed_count allows aad again ≡ passed_count allows aad ss
   pub refused : refused_count allows aad again ≡ 0

@@ -3,8 +3,11 @@ pub mod Asked
 pub mod Calls
 pub mod Findings
 pub mod Fixed
+pub mod GateRun
 pub mod Lent
+pub mod Misshapen
 pub mod Narrow
+pub mod Next
 pub mod Outcome
 pub mod Output
 pub mod Passing

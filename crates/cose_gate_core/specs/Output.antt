@@ -2,14 +2,13 @@
 use Rattle.std.specs.Prelude.{◌≡◌, ℕ, List, [], ◌∷◌, flat_map, Some, Bool, if◌then◌else◌}
 use Rattle.ciborium_value.specs.Tree.{Tree}
 use Rattle.cose_gate_core.specs.Questions.{Question, MessageFields, tagged_tree}
-use Rattle.cose_gate_core.specs.Findings.{Bounds, Finding, judged, barred, excluded, IsJudged}
+use Rattle.cose_gate_core.specs.Findings.{Bounds, Finding, judged, barred, IsJudged}
 use Rattle.cose_gate_core.specs.Run.{Step, passes}
 
 -- the message of a finding, if it passes
 abbrev pub passed_of : (Question → Bool) → List ℕ → Finding → List MessageFields
 passed_of allows aad (judged m) = if passes allows aad (judged m) then m ∷ [] else []
 passed_of allows aad (barred r) = []
-passed_of allows aad (excluded m r) = []
 
 -- the messages that pass, in order
 abbrev pub passed_messages : (Question → Bool) → List ℕ → List Step → List MessageFields

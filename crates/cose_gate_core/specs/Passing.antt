@@ -1,14 +1,15 @@
 -- What one item's way through the gate shows.
-use Rattle.std.specs.Prelude.{◌≡◌, ℕ, ◌⊎◌, List, Option, Some, None, Bool, true, false, MatchBool, Result, Ok, Err}
+use Rattle.std.specs.Prelude.{◌≡◌, ◌≢◌, ℕ, ◌⊎◌, List, Option, Bool, true, false, MatchBool, Result, Ok, Err}
 use Rattle.std.specs.Io.KnownBytes.{Appends}
 use Rattle.ciborium_ll.specs.Device.{AppendsFront}
 use Rattle.ciborium_value.specs.Tree.{Tree}
 use Rattle.coset_labels.specs.Faults.{fault_of}
 use Rattle.ciborium.specs.declared.de.Error.{Error}
 use Rattle.ciborium.specs.declared.de.Error.TheVariants as de
-use Rattle.cose_gate_core.specs.Questions.{Question, MessageFields}
+use Rattle.cose_gate_core.specs.Questions.{Question, MessageFields, message_text}
 use Rattle.cose_gate_core.specs.Asked.{folded_over, IsFront, ToldPart}
-use Rattle.cose_gate_core.specs.Findings.{not_tagged, encrypted, other_tag, detached, no_signature, Finding, judged, Bounds, IsJudged, IsBarred, IsMisshapen, Finds}
+use Rattle.cose_gate_core.specs.Findings.{not_tagged, encrypted, other_tag, detached, no_signature, not_shortest, Finding, judged, Bounds, IsBarred, Finds}
+use Rattle.cose_gate_core.specs.Misshapen.{IsMisshapen, NamesShape}
 use Rattle.cose_gate_core.specs.Run.{IsVerdict, asked_of, passes, written_of}
 use Rattle.cose_gate_core.specs.declared.report.Refusal.{Refusal}
 use Rattle.cose_gate_core.specs.declared.report.Refusal.TheVariants as refusal
@@ -20,20 +21,19 @@ use Rattle.cose_gate_core.specs.declared.gating.GateFault.TheVariants as gating
 
 -- a refusal that is made before the judge is asked
 abbrev pub IsRefused : Bounds → List ℕ → Tree → Refusal → Type 0
-IsRefused limits b t refusal.NotTagged = IsBarred limits t not_tagged
-IsRefused limits b t (refusal.OtherTag n) = IsBarred limits t (other_tag n)
-IsRefused limits b t refusal.Encrypted = IsBarred limits t encrypted
+IsRefused limits b t refusal.NotTagged = IsBarred limits b t not_tagged
+IsRefused limits b t (refusal.OtherTag n) = IsBarred limits b t (other_tag n)
+IsRefused limits b t refusal.Encrypted = IsBarred limits b t encrypted
 IsRefused limits b t (refusal.Shape e) = IsMisshapen limits t (fault_of e)
-IsRefused limits b t refusal.Detached = IsBarred limits t detached
-IsRefused limits b t refusal.NoSignature = IsBarred limits t no_signature
+IsRefused limits b t refusal.Detached = IsBarred limits b t detached
+IsRefused limits b t refusal.NoSignature = IsBarred limits b t no_signature
 IsRefused limits b t (refusal.Judged n) = ⊥
-IsRefused limits b t refusal.NotShortest =
-    (m : MessageFields) × IsJudged limits t m × (limits.excludes b m ≡ Some refusal.NotShortest)
+IsRefused limits b t refusal.NotShortest = IsBarred limits b t not_shortest
 
--- what is told of a message: whether the further rule lets it through
+-- what is told of a message: whether it may pass a gate that may be strict
 abbrev pub IsTold : Bounds → List ℕ → MessageFields → Bool → Type 0
-IsTold limits b m through = MatchBool through (limits.excludes b m ≡ None)
-    (limits.excludes b m ≡ Some refusal.NotShortest)
+IsTold limits b m through = MatchBool through (limits.strict ≡ true → b ≡ message_text m)
+    ((limits.strict ≡ true) × (b ≢ message_text m))
 
 -- what an item goes by: the limits, how a judge's state goes on, what the judge allows, and the
 -- external data
@@ -53,7 +53,8 @@ pub record WentThrough {T : Type 0} (rules : ItemRules T) (bytes : List ℕ) (t 
     (old new : ItemSight T) (v : Verdict) : Type 0 where
   pub finding : Finding
   pub finds : Finds rules.limits bytes t finding
-  pub verdict : IsVerdict rules.limits rules.allows rules.aad t finding v
+  pub verdict : IsVerdict rules.allows rules.aad finding v
+  pub shape : NamesShape rules.limits t v
   pub tells : new.told ≡ folded_over rules.decided old.told (asked_of rules.allows rules.aad finding)
   pub writes : Appends old.written new.written (written_of rules.allows rules.aad finding)
 

@@ -1,13 +1,11 @@
 -- What a gate does with a whole input: the items in order, with what is found, asked, written and
 -- noted of each.
 use Rattle.std.specs.Prelude.{◌≡◌, ℕ, ◌+◌, List, [], ◌∷◌, map, flat_map, Option, Some, None, Bool, true, false, not, if◌then◌else◌, is_none, count_by}
-use Rattle.ciborium_value.specs.Tree.{Tree}
 use Rattle.ciborium.specs.Items.{Item, SequenceWithin, ItemsWithin}
-use Rattle.coset_labels.specs.Faults.{fault_of}
 use Rattle.coset_labels.specs.declared.error.CoseError.{CoseError}
 use Rattle.cose_gate_core.specs.Questions.{Question, questions, message_text}
 use Rattle.cose_gate_core.specs.Asked.{asked, first_no}
-use Rattle.cose_gate_core.specs.Findings.{not_tagged, encrypted, other_tag, shape, detached, no_signature, Finding, judged, barred, excluded, Bounds, Finds, IsMisshapen}
+use Rattle.cose_gate_core.specs.Findings.{not_tagged, encrypted, other_tag, shape, detached, no_signature, not_shortest, Finding, judged, barred, Bounds, Finds}
 use Rattle.cose_gate_core.specs.declared.report.Entry.{Entry}
 use Rattle.cose_gate_core.specs.declared.report.Verdict.{Verdict}
 use Rattle.cose_gate_core.specs.declared.report.Verdict.TheVariants.{Passed, Refused}
@@ -28,18 +26,16 @@ abbrev pub has_passed : Verdict → Bool
 has_passed Passed = true
 has_passed (Refused r) = false
 
--- which verdict stands for what is found; of a shape's fault it isn't said which of the value's
--- faults is named
-abbrev pub IsVerdict : Bounds → (Question → Bool) → List ℕ → Tree → Finding → Verdict → Type 0
-IsVerdict limits allows aad t (judged m) v = v ≡ judged_by (first_no allows (questions m aad))
-IsVerdict limits allows aad t (barred not_tagged) v = v ≡ Refused refusal.NotTagged
-IsVerdict limits allows aad t (barred encrypted) v = v ≡ Refused refusal.Encrypted
-IsVerdict limits allows aad t (barred (other_tag n)) v = v ≡ Refused (refusal.OtherTag n)
-IsVerdict limits allows aad t (barred shape) v =
-    (e : CoseError) × (v ≡ Refused (refusal.Shape e)) × IsMisshapen limits t (fault_of e)
-IsVerdict limits allows aad t (barred detached) v = v ≡ Refused refusal.Detached
-IsVerdict limits allows aad t (barred no_signature) v = v ≡ Refused refusal.NoSignature
-IsVerdict limits allows aad t (excluded m r) v = v ≡ Refused r
+-- which verdict stands for what is found; which fault a shape names is said by `NamesShapes`
+abbrev pub IsVerdict : (Question → Bool) → List ℕ → Finding → Verdict → Type 0
+IsVerdict allows aad (judged m) v = v ≡ judged_by (first_no allows (questions m aad))
+IsVerdict allows aad (barred not_tagged) v = v ≡ Refused refusal.NotTagged
+IsVerdict allows aad (barred encrypted) v = v ≡ Refused refusal.Encrypted
+IsVerdict allows aad (barred (other_tag n)) v = v ≡ Refused (refusal.OtherTag n)
+IsVerdict allows aad (barred shape) v = (e : CoseError) × (v ≡ Refused (refusal.Shape e))
+IsVerdict allows aad (barred detached) v = v ≡ Refused refusal.Detached
+IsVerdict allows aad (barred no_signature) v = v ≡ Refused refusal.NoSignature
+IsVerdict allows aad (barred not_shortest) v = v ≡ Refused refusal.NotShortest
 
 -- the steps from number n on: each finds what is there, and its entry says so
 abbrev pub Steps : Bounds → (Question → Bool) → List ℕ → ℕ → List Step → Type 0
@@ -48,25 +44,22 @@ Steps limits allows aad n (s ∷ ss) =
     Finds limits s.item.bytes s.item.value s.finding
     × (s.entry.number ≡ n)
     × (s.entry.offset ≡ s.item.offset)
-    × IsVerdict limits allows aad s.item.value s.finding s.entry.verdict
+    × IsVerdict allows aad s.finding s.entry.verdict
     × Steps limits allows aad (n + 1) ss
 
 -- the questions that are asked of one finding, up to the first no
 abbrev pub asked_of : (Question → Bool) → List ℕ → Finding → List Question
 asked_of allows aad (judged m) = asked allows (questions m aad)
 asked_of allows aad (barred r) = []
-asked_of allows aad (excluded m r) = []
 
 -- whether it passes: a yes to each question
 abbrev pub passes : (Question → Bool) → List ℕ → Finding → Bool
 passes allows aad (judged m) = is_none (first_no allows (questions m aad))
 passes allows aad (barred r) = false
-passes allows aad (excluded m r) = false
 
 abbrev pub text_of : Finding → List ℕ
 text_of (judged m) = message_text m
 text_of (barred r) = []
-text_of (excluded m r) = []
 
 -- what is written of it: its canonical encoding if it passes, else nothing
 abbrev pub written_of : (Question → Bool) → List ℕ → Finding → List ℕ

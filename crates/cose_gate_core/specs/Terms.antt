@@ -7,16 +7,12 @@ use Rattle.ciborium.specs.declared.frames.Front.{Front}
 use Rattle.ciborium.specs.declared.frames.Front.TheVariants as front
 use Rattle.coset_labels.specs.Limits.{nesting_of, layers_of}
 use Rattle.coset_labels.specs.declared.limits.Limits.{Limits}
-use Rattle.cose_gate_core.specs.Findings.{Bounds, excluded_by}
+use Rattle.cose_gate_core.specs.Findings.{Bounds, within}
 use Rattle.cose_gate_core.specs.declared.terms.Terms.{Terms}
 
--- the limits that a caller chose, with the further rule of a gate
+-- the limits that a caller chose, for the gate or for the strict gate
 abbrev pub limits_by : Limits → Bool → Bounds
-limits_by chosen strict = record {
-  nesting = nesting_of chosen;
-  layers = layers_of chosen;
-  excludes = λ bytes m. excluded_by strict bytes m;
-}
+limits_by chosen strict = within (nesting_of chosen) (layers_of chosen) strict
 
 abbrev pub limits_of : Terms → Bounds
 limits_of terms = limits_by terms.limits terms.strict

@@ -5,7 +5,8 @@ ghost use Rattle.ciborium_value.specs.Tree.{Tree};
 ghost use Rattle.ciborium.specs.Front.{Reads};
 ghost use Rattle.coset_labels.specs.Faults.{CoseFault, no_memory};
 ghost use Rattle.cose_gate_core.specs.Questions.{Question};
-ghost use Rattle.cose_gate_core.specs.Findings.{Bounds, Finding, Finds, IsMisshapen};
+ghost use Rattle.cose_gate_core.specs.Findings.{Bounds, Finding, Finds};
+ghost use Rattle.cose_gate_core.specs.Misshapen.{IsMisshapen, NamesShapes};
 ghost use Rattle.cose_gate_core.specs.Run.{Step, Course, Run, entries_of};
 ghost use Rattle.cose_gate_core.specs.Anew.{SameEntries};
 
@@ -32,12 +33,12 @@ pub fn shape_holds_no_memory()
 pub fn every_input_run()
     ensures there { (limits : Bounds) (allows : Question → Bool) (aad : List ℕ) (at : ℕ)
         (b : List ℕ) → All (λ x. x < 256) b → (ss : List Step) × (rest : List ℕ)
-        × Run limits allows aad at b ss rest }
+        × Run limits allows aad at b ss rest × NamesShapes limits ss }
     ensures entries { (limits : Bounds) (allows : Question → Bool) (aad : List ℕ) (at : ℕ)
         (b : List ℕ) (ss rs : List Step) (rest more : List ℕ) → Run limits allows aad at b ss rest
         → Run limits allows aad at b rs more → SameEntries (entries_of ss) (entries_of rs) }
     ensures goes_on { (limits : Bounds) (allows : Question → Bool) (aad : List ℕ) (at : ℕ)
         (b : List ℕ) (ss : List Step) (more : List ℕ) → Course limits allows aad at b ss more
         → All (λ x. x < 256) b → (rs : List Step) × (rest : List ℕ)
-        × Run limits allows aad at b (ss ++ rs) rest }
+        × Run limits allows aad at b (ss ++ rs) rest × NamesShapes limits rs }
 {}

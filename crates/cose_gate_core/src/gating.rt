@@ -1,6 +1,7 @@
 //! The gate.
 ghost use Rattle.std.specs.Prelude.{◌≡◌, ◌≢◌, ◌+◌, ◌<◌, ◌^◌, [], Some, None, Ok, Err};
-ghost use Rattle.std.specs.Prelude.{◌≤◌, IsOk, IfOk, IfErr, IfSome, OnOk, true, not, if◌then◌else◌};
+ghost use Rattle.std.specs.Prelude.{◌≤◌, IfOk, IfErr, IfSome, OnOk, true, not, if◌then◌else◌};
+ghost use Rattle.std.specs.Io.KnownBytes.{Keeps};
 ghost use Rattle.ciborium.specs.Damage.{Damage};
 ghost use Rattle.ciborium.specs.Front.{HoldsOne};
 ghost use Rattle.ciborium.specs.Fronts.{front_view};
@@ -11,18 +12,20 @@ ghost use Rattle.ciborium_ll.specs.Views.{left_of, offset_of, waiting_of, reader
 ghost use Rattle.ciborium_value.specs.View.{view};
 ghost use Rattle.coset_labels.specs.Limits.{nesting_of};
 ghost use Rattle.cose_gate_core.specs.Calls.{rules_by, sight_of};
-ghost use Rattle.cose_gate_core.specs.Outcome.{Answers, IsNext, IsReadFault, IfTooLong, GoesOn};
-ghost use Rattle.cose_gate_core.specs.Outcome.{reader_failures, writer_failures};
+ghost use Rattle.cose_gate_core.specs.GateRun.{Ran};
+ghost use Rattle.cose_gate_core.specs.Next.{IsNext, IsReadFault, GoesOn};
+ghost use Rattle.cose_gate_core.specs.Outcome.{IfTooLong, reader_failures, writer_failures};
 ghost use Rattle.cose_gate_core.specs.Passing.{at_end};
 ghost use Rattle.cose_gate_core.specs.ReasonNames.{fault_name};
 ghost use Rattle.cose_gate_core.specs.Run.{has_passed};
 ghost use Rattle.cose_gate_core.specs.Terms.{limits_of, IsTaken, IsFrontFor};
-ghost use Rattle.cose_gate_core.specs.declared.gating.GateFault.TheVariants.{Memory};
+ghost use Rattle.cose_gate_core.specs.declared.gating.GateFault.TheVariants.{Write, Memory};
 
 use crate::judge::Judge;
 use crate::passing::{ItemFault, pass_front};
 use crate::report::{Entry, Report, Verdict};
 use crate::terms::Terms;
+use crate::whole::is_whole;
 use ciborium::{Front, Spare, Value, de, read_front};
 use ciborium_ll::{Decoder, Read, Write};
 use std::alloc::{AllocError, Global};
@@ -311,6 +314,33 @@ pub fn gate_next<R: Read, W: Write, P: Report, J: Judge>(
     Ok(Some(counts))
 }
 
+/// If the gate is live, hands on what passed, and then what is noted of it, unless the next item is
+/// at hand as a whole.
+///
+/// # Errors
+/// `Write` if the output can't be flushed. The report holds back what it held then.
+fn hand_over<R: Read, W: Write, P: Report>(
+    live: bool,
+    decoder: &Decoder<R>,
+    out: &mut W,
+    report: &mut P,
+) -> Result<(), GateFault<R::Error>>
+    ensures written { Keeps (W.written out.old) (W.written out.new) }
+    ensures failed { W.failed out.new ≡ W.failed out.old + writer_failures result }
+    ensures lent { W.handle out.new ≡ W.handle out.old }
+    ensures noted { P.state report.new ≡ P.state report.old }
+    ensures stops { IfErr result (λ fault. (fault ≡ Write) × (live ≡ true)) }
+{
+    if !live || is_whole(decoder.held()) {
+        return Ok(());
+    }
+    if out.flush().is_err() {
+        return Err(GateFault::Write);
+    }
+    report.rest();
+    Ok(())
+}
+
 /// Asks the judge about each tagged COSE_Sign1, COSE_Mac0, COSE_Sign and COSE_Mac of a CBOR
 /// sequence that carries its payload, over exactly the bytes that its signature or tag covers, with
 /// `aad` as external data, and writes those that passed, each as its canonical encoding (definite
@@ -318,7 +348,8 @@ pub fn gate_next<R: Read, W: Write, P: Report, J: Judge>(
 /// it asks once for each signature, in order up to the first no, with that signature's headers as
 /// the signer's; it has passed if the answer to each is yes, and one without a signature is
 /// refused. Every item is noted in the report; one that is no such message is refused there, and
-/// the gate goes on. It doesn't flush.
+/// the gate goes on. If it is `live`, what passed, and then what is noted of it, is handed on after
+/// each item, unless the next one is at hand as a whole; else it doesn't flush.
 ///
 /// Items, and anew those in protected headers, nest no deeper than `terms.limits.nesting()` levels,
 /// and no more than `terms.limits.layers()` protected headers are inside one another. If
@@ -329,7 +360,8 @@ pub fn gate_next<R: Read, W: Write, P: Report, J: Judge>(
 /// It ends with `Ok` if nothing is left after an item: the offset has grown by all bytes then, and
 /// a reader that tells what is to come tells that nothing is. No header waits after any result.
 /// What the clause `ran` says holds of the bytes that were there, also over a reader that doesn't
-/// tell which are to come; if they are known, it holds of those.
+/// tell which are to come; if they are known, it holds of those. Of no bytes it ends with `Ok`,
+/// unless the reader fails or offsets grow too long: the law `nothing_is_whole`.
 ///
 /// # Errors
 /// `Decode` if no readable item begins: all items before it were asked about, noted and written. Of
@@ -337,14 +369,15 @@ pub fn gate_next<R: Read, W: Write, P: Report, J: Judge>(
 /// grown by their count. They may end inside an item, so don't read on from there. `Decode` also if
 /// the reader failed: then all that was asked, noted and written are the first items. `Write` if
 /// the writer failed: a beginning of the encoding of a message was written after the output before
-/// it, and the reader is after that message. `Memory` if out of memory: whole encodings were
-/// written, and of the questions about the item at hand a beginning was asked; once all are asked,
-/// its encoding is written if it passes, which takes no memory, and only its entry can be missing.
-/// If there is no such item, some of the bytes after the last one were taken, or none, but none
-/// after the item that was due.
+/// it, and the reader is after that message; or what passed could not be handed on. `Memory` if out
+/// of memory: whole encodings were written, and of the questions about the item at hand a beginning
+/// was asked; once all are asked, its encoding is written if it passes, which takes no memory, and
+/// only its entry can be missing. If there is no such item, some of the bytes after the last one
+/// were taken, or none, but none after the item that was due.
 pub fn gate_by<R: Read, W: Write, P: Report, J: Judge>(
     alloc: Global,
     terms: Terms,
+    live: bool,
     decoder: &mut Decoder<R>,
     out: &mut W,
     report: &mut P,
@@ -352,15 +385,10 @@ pub fn gate_by<R: Read, W: Write, P: Report, J: Judge>(
     judge: &mut J,
 ) -> Result<Counts, GateFault<R::Error>>
     requires { terms.strict ≡ true → waiting_of decoder.old ≡ None }
-    ensures ran { Answers R.ends
+    ensures ran { Ran R.ends live
         (rules_by (limits_of terms) P.Report J.Judge judge.old aad.now)
         (sight_of R.Read W.Write P.Report J.Judge decoder.old out.old report.old judge.old)
         (sight_of R.Read W.Write P.Report J.Judge decoder.new out.new report.new judge.new) result }
-    ensures nothing { left_of R.left decoder.old ≡ Some []
-        → R.failed (reader_of decoder.new) ≡ R.failed (reader_of decoder.old)
-        → offset_of decoder.old + 4096 < 2 ^ 64 → IsOk result }
-    ensures no_memory_of_nothing { left_of R.left decoder.old ≡ Some []
-        → result ≢ Err Memory }
     ensures far { IfErr result (IfTooLong (IsFar (offset_of decoder.new))) }
     ensures reader { R.failed (reader_of decoder.new)
         ≡ R.failed (reader_of decoder.old) + reader_failures R.ends result }
@@ -382,5 +410,6 @@ pub fn gate_by<R: Read, W: Write, P: Report, J: Judge>(
             return Ok(counts);
         };
         counts = next;
+        hand_over(live, decoder, out, report)?;
     }
 }

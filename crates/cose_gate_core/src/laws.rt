@@ -10,9 +10,10 @@ ghost use Rattle.cose_gate_core.specs.Run.{Step, Run, questions_of, output_of};
 pub use crate::findings::{every_input_run, every_item_found, shape_holds_no_memory};
 pub use crate::output::{
     output_is_fixed, output_is_no_longer, output_is_passed_messages, output_is_received,
-    wider_limits_admit,
 };
-pub use crate::runs::{course_begins_run, joined_runs, refused_taken_out, same_trees};
+pub use crate::runs::{
+    course_begins_run, joined_runs, nothing_is_whole, ran_is_run, refused_taken_out, same_trees,
+};
 
 /// An item has one finding at most.
 pub fn one_finding()

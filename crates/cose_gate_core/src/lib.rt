@@ -19,6 +19,7 @@ mod runs;
 mod sign;
 mod sign1;
 mod terms;
+mod whole;
 mod writing;
 
 pub use crate::about::{About, MessageKind};

@@ -103,6 +103,11 @@ pub trait Report {
     fn note(&mut self, entry: &Entry) -> Result<(), AllocError>
         ensures ok { OnOk result (state self.new ≡ folded (state self.old) entry.now) }
         ensures err { OnErr result (state self.new ≡ state self.old) };
+
+    /// Hands on what it holds back: more input may be waited for. What it keeps stays.
+    fn rest(&mut self)
+        ensures { state self.new ≡ state self.old }
+    {}
 }
 
 /// A report that keeps nothing.

@@ -5,7 +5,8 @@ use Rattle.coset_labels.specs.Limits.{nesting, layers, nesting_of, layers_of}
 use Rattle.coset_labels.specs.Reading.{HasItem}
 use Rattle.coset_labels.specs.declared.limits.Limits.{Limits}
 use Rattle.cose_gate_core.specs.Asked.{folded_over}
-use Rattle.cose_gate_core.specs.Findings.{Bounds, plain, usual}
+use Rattle.cose_gate_core.specs.Findings.{Bounds, within, usual}
+use Rattle.cose_gate_core.specs.GateRun.{GateRun, asked_in, result_of}
 use Rattle.cose_gate_core.specs.Questions.{Question}
 use Rattle.cose_gate_core.specs.Terms.{limits_by}
 use Rattle.cose_gate_core.specs.declared.gating.Counts.{Counts as Count}
@@ -14,7 +15,7 @@ use Rattle.cose_gate_core.specs.declared.report.Entry.{Entry}
 use Rattle.coset_keys.specs.Fields.{KeyFields}
 use Rattle.coset_keys.specs.Keys.{HasKeySet}
 use Rattle.cose_gate_program.specs.LentTeller.{LentTeller}
-use Rattle.cose_gate_program.specs.Program.{Devices, GateRun, Shows, asked_in, result_of}
+use Rattle.cose_gate_program.specs.Program.{Devices, Shows}
 use Rattle.cose_gate_program.specs.Telling.{items_of, last_of, status_at, RanTold, EndsTold, not_begun, after_run}
 use Rattle.cose_gate_program.specs.declared.devices.InputFault.{InputFault}
 use Rattle.cose_gate_program.specs.declared.telling.Notice.{Notice}
@@ -49,7 +50,7 @@ heard_state step h h' es e = ap (λ (z : LentTeller _). z.state) (e ∙ heard_ov
 
 -- the run after a flush, and the last notice
 pub ran_told : {limits : Bounds} {allows : Question → Bool} {aad : List ℕ} {old new : Devices} {status : ℕ} {A : List Question → Type 0}
-    {S : Type 0} (step : S → Notice → S) (s mid s' : S) (gated : Result Count (GateFault InputFault)) (k flushed : Bool) (last : Notice) (run : GateRun)
+    {S : Type 0} (step : S → Notice → S) (s mid s' : S) (gated : Result Count (GateFault InputFault)) (k flushed : Bool) (last : Notice) (run : GateRun InputFault)
     → Shows limits allows aad old new run k → A (asked_in allows aad run) → mid ≡ folded_over step s (items_of run.done)
     → gated ≡ result_of allows aad run → flushed ≡ k → last ≡ last_of gated flushed → s' ≡ step mid last → status ≡ status_at last
     → RanTold limits allows aad old new status A (λ ns. s' ≡ folded_over step s ns)
@@ -92,4 +93,4 @@ began b d given ks held k a has e same r =
 
 -- the limits if none are chosen
 pub usually : (l : Limits) → (nesting_of l ≡ nesting) × (layers_of l ≡ layers) → limits_by l false ≡ usual
-usually l e = ap (λ (n : ℕ). plain n (layers_of l)) e.0 ∙ ap (λ (k : ℕ). plain nesting k) e.1
+usually l e = ap (λ (n : ℕ). within n (layers_of l) false) e.0 ∙ ap (λ (k : ℕ). within nesting k false) e.1

@@ -8,7 +8,6 @@ pub mod Keeps
 pub mod Keys
 pub mod LentTeller
 pub mod Lines
-pub mod Live
 pub mod Messages
 pub mod Names
 pub mod OutOfBlocks

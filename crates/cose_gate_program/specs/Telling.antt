@@ -4,6 +4,7 @@ use Rattle.ciborium_ll.specs.declared.write.Write.{Ghosts as Writes}
 use Rattle.coset_labels.specs.Reading.{HasItem}
 use Rattle.cose_gate_core.specs.Asked.{folded_over}
 use Rattle.cose_gate_core.specs.Findings.{Bounds}
+use Rattle.cose_gate_core.specs.GateRun.{GateRun, asked_in, result_of}
 use Rattle.cose_gate_core.specs.Questions.{Question}
 use Rattle.cose_gate_core.specs.Run.{Step, entries_of}
 use Rattle.cose_gate_core.specs.declared.gating.Counts.{Counts as Count}
@@ -13,7 +14,7 @@ use Rattle.coset_keys.specs.Fields.{KeyFields}
 use Rattle.coset_keys.specs.Keys.{HasKeySet}
 use Rattle.cose_gate_program.specs.Beginning.{status_of, BeginsNot}
 use Rattle.cose_gate_program.specs.Lines.{lines_of}
-use Rattle.cose_gate_program.specs.Program.{Devices, GateRun, Shows, asked_in, result_of}
+use Rattle.cose_gate_program.specs.Program.{Devices, Shows}
 use Rattle.cose_gate_program.specs.Writing.{Wrote}
 use Rattle.cose_gate_program.specs.declared.beginning.NotBegun.{NotBegun as Unbegun}
 use Rattle.cose_gate_program.specs.declared.devices.InputFault.{InputFault}
@@ -29,7 +30,7 @@ items_of steps = map (λ e. Item e) (entries_of steps)
 pub record Gated (limits : Bounds) (allows : Question → Bool) (aad : List ℕ) (old new : Devices)
     (result : Result Count (GateFault InputFault)) (Asked : List Question → Type 0)
     (Told : List Notice → Type 0) : Type 0 where
-  pub run : GateRun
+  pub run : GateRun InputFault
   pub shows : Shows limits allows aad old new run true
   pub asked : Asked (asked_in allows aad run)
   pub told : Told (items_of run.done)
@@ -49,14 +50,14 @@ status_at (Stopped fault) = 4
 status_at (NotBegun why) = status_of why
 
 -- what is told of a run: an item for each step that was done whole, and how it ended
-abbrev pub told_in : (Question → Bool) → List ℕ → GateRun → Bool → List Notice
+abbrev pub told_in : (Question → Bool) → List ℕ → GateRun InputFault → Bool → List Notice
 told_in allows aad run flushed =
     items_of run.done ++ last_of (result_of allows aad run) flushed ∷ []
 
 -- the program ran: output, status, and what judge and teller were told are those of one run
 pub record RanTold (limits : Bounds) (allows : Question → Bool) (aad : List ℕ) (old new : Devices)
     (status : ℕ) (Asked : List Question → Type 0) (Told : List Notice → Type 0) : Type 0 where
-  pub run : GateRun
+  pub run : GateRun InputFault
   pub flushed : Bool
   pub shows : Shows limits allows aad old new run flushed
   pub asked : Asked (asked_in allows aad run)

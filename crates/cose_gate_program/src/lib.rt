@@ -22,7 +22,6 @@ mod secrets;
 mod stack;
 mod telling;
 mod verdict;
-mod whole;
 
 pub use crate::arguments::words;
 pub use crate::beginning::{Beginning, NotBegun, begin};

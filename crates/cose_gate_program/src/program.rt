@@ -1,101 +1,22 @@
 //! The program: the gate over one input, a line for each item, and one that says how it ended.
-ghost use Rattle.std.specs.Prelude.{◌≡◌, ◌+◌, ◌<◌, ◌^◌, [], None, Some, option_copied, IsOk};
-ghost use Rattle.std.specs.Io.KnownBytes.{Keeps};
-ghost use Rattle.ciborium_ll.specs.Device.{write_failures};
-ghost use Rattle.ciborium_ll.specs.Views.{left_of, offset_of, reader_of, waiting_of};
-ghost use Rattle.cose_gate_core.specs.Calls.{rules_by, sight_of};
+ghost use Rattle.std.specs.Prelude.{◌≡◌, Some, option_copied};
 ghost use Rattle.cose_gate_core.specs.Findings.{usual};
-ghost use Rattle.cose_gate_core.specs.Outcome.{reader_failures, writer_failures};
 ghost use Rattle.cose_gate_core.specs.Terms.{limits_of};
 ghost use Rattle.cose_gate_program.specs.Beginning.{aad_of};
 ghost use Rattle.cose_gate_program.specs.Judge.{says_yes};
-ghost use Rattle.cose_gate_program.specs.Live.{EndsLive, reports_to};
 ghost use Rattle.cose_gate_program.specs.Program.{devices_of, hears};
 ghost use Rattle.cose_gate_program.specs.Telling as spec;
 ghost use Rattle.cose_gate_program.specs.Telling.{Gated, RanTold, EndsTold, tells, writes};
 
 use crate::beginning::{begin, read_keys};
-use crate::devices::{Input, InputFault, Output, OutputFault};
+use crate::devices::{Input, InputFault, Output};
 use crate::judge::HmacJudge;
 use crate::lines::{Lines, write_notice};
 use crate::telling::{Notice, Teller, TellerReport};
-use crate::whole::is_whole;
-use ciborium::Spare;
 use ciborium_ll::log::Log;
 use ciborium_ll::{Decoder, Read, Write};
-use cose_gate_core::{Counts, GateFault, ItemTerms, Judge, Limits, Terms, gate_next};
+use cose_gate_core::{Counts, GateFault, Judge, Limits, Terms, gate_by};
 use std::alloc::Global;
-
-/// Hands on what passed, and then what is told of it, unless the next item is at hand as a whole.
-///
-/// # Errors
-/// The output can't be flushed. The teller holds back what it held then.
-fn hand_over<R: Read, W: Write, T: Teller>(
-    decoder: &Decoder<R>,
-    out: &mut W,
-    teller: &mut T,
-) -> Result<(), OutputFault>
-    ensures written { Keeps (W.written out.old) (W.written out.new) }
-    ensures failed { W.failed out.new ≡ write_failures result (W.failed out.old) }
-    ensures kept { W.handle out.new ≡ W.handle out.old }
-    ensures told { T.state teller.new ≡ T.state teller.old }
-{
-    if is_whole(decoder.held()) {
-        return Ok(());
-    }
-    if out.flush().is_err() {
-        return Err(OutputFault);
-    }
-    teller.rest();
-    Ok(())
-}
-
-/// The gate as `gate_by`, but what passed, and then what is told of it, is handed on after each
-/// item, unless the next one is at hand as a whole.
-fn gate_live<R: Read, W: Write, T: Teller, J: Judge>(
-    alloc: Global,
-    terms: Terms,
-    aad: &[u8],
-    decoder: &mut Decoder<R>,
-    out: &mut W,
-    report: &mut TellerReport<'_, T>,
-    judge: &mut J,
-) -> Result<Counts, GateFault<R::Error>>
-    requires { waiting_of decoder.old ≡ None }
-    ensures ran { EndsLive R.ends
-        (rules_by (limits_of terms) (reports_to T.Teller) J.Judge judge.old aad.now)
-        (sight_of R.Read W.Write (reports_to T.Teller) J.Judge
-        decoder.old out.old report.old judge.old)
-        (sight_of R.Read W.Write (reports_to T.Teller) J.Judge
-        decoder.new out.new report.new judge.new) result }
-    ensures nothing { left_of R.left decoder.old ≡ Some []
-        → R.failed (reader_of decoder.new) ≡ R.failed (reader_of decoder.old)
-        → offset_of decoder.old + 4096 < 2 ^ 64 → IsOk result }
-    ensures reader { R.failed (reader_of decoder.new)
-        ≡ R.failed (reader_of decoder.old) + reader_failures R.ends result }
-    ensures writer { W.failed out.new ≡ W.failed out.old + writer_failures result }
-    ensures who { J.who judge.new ≡ J.who judge.old }
-    ensures kept { R.handle (reader_of decoder.new) ≡ R.handle (reader_of decoder.old) }
-    ensures lent { W.handle out.new ≡ W.handle out.old }
-    ensures fresh { waiting_of decoder.new ≡ None }
-{
-    let mut counts = Counts {
-        passed: 0,
-        refused: 0,
-    };
-    let mut spare = Spare::new(alloc);
-    'items: loop {
-        let item = ItemTerms { terms, aad, counts };
-        let Some(next) = gate_next(alloc, item, decoder, out, report, judge, &mut spare)? else {
-            return Ok(counts);
-        };
-        counts = next;
-        match hand_over(decoder, out, report.teller) {
-            Ok(()) => {}
-            Err(_) => return Err(GateFault::Write),
-        }
-    }
-}
 
 /// The gate over input and output with small faults, told item by item.
 fn gate_told<R: Read, W: Write, T: Teller, J: Judge>(
@@ -118,13 +39,14 @@ fn gate_told<R: Read, W: Write, T: Teller, J: Judge>(
     let mut decoder = Decoder::from(Input { reader: input });
     let mut output = Output { writer: out };
     let mut report = TellerReport { teller };
-    gate_live(
+    gate_by(
         alloc,
         terms,
-        aad,
+        true,
         &mut decoder,
         &mut output,
         &mut report,
+        aad,
         judge,
     )
 }

@@ -61,4 +61,8 @@ impl<'a, T: Teller> Report for TellerReport<'a, T> {
         self.teller.tell(&Notice::Item(*entry));
         Ok(())
     }
+
+    fn rest(&mut self) {
+        self.teller.rest();
+    }
 }

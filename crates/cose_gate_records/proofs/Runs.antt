@@ -2,7 +2,7 @@
 use Rattle.std.proofs.Common.{◌≡◌, ℕ, ◌<◌, ◌++◌, inl, inr, List, [], length, flat_map, Option, Some, Bool, ap, subst, ◌∙◌, arith}
 use Rattle.coset_labels.specs.Limits.{AreLimits, nesting_of, layers_of}
 use Rattle.coset_labels.specs.declared.limits.Limits.{Limits}
-use Rattle.cose_gate_core.specs.Findings.{Bounds}
+use Rattle.cose_gate_core.specs.Findings.{Bounds, within}
 use Rattle.cose_gate_core.specs.Terms.{limits_by}
 use Rattle.cose_gate_core.specs.Questions.{Question}
 use Rattle.coset_keys.specs.Fields.{KeyFields}
@@ -10,7 +10,7 @@ use Rattle.cose_gate_program.specs.Program.{Devices}
 use Rattle.cose_gate_program.specs.Telling.{RanTold, EndsTold}
 use Rattle.cose_gate_program.specs.declared.telling.Notice.{Notice}
 use Rattle.cose_gate_records.specs.Framing.{framed}
-use Rattle.cose_gate_records.specs.Calls.{within, devices, RanBy, Passed, Places, Buffers, Answers}
+use Rattle.cose_gate_records.specs.Calls.{devices, RanBy, Passed, Places, Buffers, Answers}
 use Rattle.cose_gate_records.specs.declared.answer.Answer.{Answer}
 
 -- input and output by their parts

@@ -1,7 +1,7 @@
 -- What a call over buffers returns.
 use Rattle.std.specs.Prelude.{◌≡◌, ℕ, ◌<◌, ◌≤◌, ◌⊎◌, List, [], ◌++◌, length, drop, flat_map, Option, None, Some, Bool, true}
 use Rattle.coset_labels.specs.Limits.{AreLimits}
-use Rattle.cose_gate_core.specs.Findings.{Bounds, excluded_by}
+use Rattle.cose_gate_core.specs.Findings.{Bounds, within}
 use Rattle.cose_gate_core.specs.Questions.{Question}
 use Rattle.cose_gate_program.specs.Judge.{says_yes}
 use Rattle.cose_gate_program.specs.Program.{Devices}
@@ -11,11 +11,6 @@ use Rattle.cose_gate_records.specs.Framing.{framed}
 use Rattle.cose_gate_records.specs.Records.{is_among, record_of}
 use Rattle.cose_gate_records.specs.Lines.{AreLines, AreLinesOf, AreLinesThenMemory, no_records, stopped}
 use Rattle.cose_gate_records.specs.declared.answer.Answer.{Answer}
-
--- so many levels and layers; a strict gate passes only what is already as it would be written
-abbrev pub within : ℕ → ℕ → Bool → Bounds
-within nesting layers strict =
-    record { nesting = nesting; layers = layers; excludes = λ bytes m. excluded_by strict bytes m }
 
 -- the input to come and the output, if they are known, when nothing has failed
 abbrev pub devices : Option (List ℕ) → Option (List ℕ) → Devices

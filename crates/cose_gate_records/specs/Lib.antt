@@ -9,3 +9,4 @@ pub mod Records
 pub mod Tallies
 pub mod Verifying
 pub mod Views
+pub use Rattle.cose_gate_core.specs.Findings

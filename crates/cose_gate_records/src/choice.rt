@@ -1,8 +1,8 @@
 //! What a caller chooses.
 ghost use Rattle.std.specs.Prelude.{◌≡◌, MatchOption};
 ghost use Rattle.coset_labels.specs.Limits.{AreLimits};
+ghost use Rattle.cose_gate_core.specs.Findings.{within};
 ghost use Rattle.cose_gate_core.specs.Terms.{limits_of};
-ghost use Rattle.cose_gate_records.specs.Calls.{within};
 
 use cose_gate_program::{Limits, Terms};
 

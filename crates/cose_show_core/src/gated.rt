@@ -144,7 +144,16 @@ pub fn gate_item<J: Judge>(
         limits: Limits::default(),
         strict: false,
     };
-    match gate_by(alloc, terms, &mut decoder, out, &mut entries, aad, judge) {
+    match gate_by(
+        alloc,
+        terms,
+        false,
+        &mut decoder,
+        out,
+        &mut entries,
+        aad,
+        judge,
+    ) {
         Ok(_) => Ok(Ok(entries.as_slice().first().map(|entry| entry.verdict))),
         Err(GateFault::Memory | GateFault::Write) => Err(Stop::Memory),
         Err(fault) => Ok(Err(fault)),

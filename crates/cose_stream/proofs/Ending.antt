@@ -7,7 +7,7 @@ use Rattle.std.proofs.lemmas.Bool.{true≢false}
 use Rattle.ciborium_ll.specs.Reading.{Moves, due}
 use Rattle.ciborium_ll.specs.declared.hdr.Header.{Header}
 use Rattle.ciborium_ll.specs.declared.write.Write.{Ghosts as Writing}
-use Rattle.cose_gate.specs.Findings.{usual, plain}
+use Rattle.cose_gate.specs.Findings.{usual, within}
 use Rattle.cose_gate.specs.ReadError.TheVariants as de
 use Rattle.cose_gate.specs.GateFault.TheVariants as gating
 use Rattle.coset_labels.specs.Limits.{nesting, layers}
@@ -44,10 +44,10 @@ told_small ends D long de.TooLong t = t
 
 -- within the limits if none are chosen, of the whole input
 pub part_usually : {W F : Type 0} (w : Writing W F) (out out' : W) (levels layers' : ℕ) (from l : Option (List ℕ)) → levels ≡ nesting → layers' ≡ layers → from ≡ l
-    → CopiedPart (plain levels layers') w out out' from → CopiedPart usual w out out' l
+    → CopiedPart (within levels layers' false) w out out' from → CopiedPart usual w out out' l
 part_usually w out out' levels layers' from l n y is c =
     subst (λ (z : Option (List ℕ)). CopiedPart usual w out out' z) is
-    (subst (λ (z : ℕ). CopiedPart (plain nesting z) w out out' from) y (subst (λ (z : ℕ). CopiedPart (plain z layers') w out out' from) n c))
+    (subst (λ (z : ℕ). CopiedPart (within nesting z false) w out out' from) y (subst (λ (z : ℕ). CopiedPart (within z layers' false) w out out' from) n c))
 
 module _ {W F : Type 0} (allows : Question → Bool) (aad : List ℕ) (w : Writing W F) (out out' : W) where
   stops_at : {E : Type 0} (ends : E → Bool) (l : Option (List ℕ)) (f : StreamFault E) → CopiedPart usual w out out' l → IfKnown l (λ b. Tells ends (Unstreamed (0 + length b) b) (IsLongFor 4096 0 b) f)
@@ -64,9 +64,9 @@ module _ {W F : Type 0} (allows : Question → Bool) (aad : List ℕ) (w : Writi
   stops_at ends l fault.Memory p k = p
 
   pub stops : {E : Type 0} (ends : E → Bool) (levels layers' : ℕ) (from l : Option (List ℕ)) (o : ℕ) (f : StreamFault E) → levels ≡ nesting → layers' ≡ layers → from ≡ l → o ≡ 0
-      → Names ends (UnstreamedBy (plain levels layers')) 4096 from o f → CopiedPart (plain levels layers') w out out' from → Ended allows aad l w out out' (Err (stopped_by ends f))
+      → Names ends (UnstreamedBy (within levels layers' false)) 4096 from o f → CopiedPart (within levels layers' false) w out out' from → Ended allows aad l w out out' (Err (stopped_by ends f))
   stops ends levels layers' from l o f n y is start by part =
-      let usually = subst (λ (z : ℕ). Names ends (UnstreamedBy (plain nesting z)) 4096 from o f) y (subst (λ (z : ℕ). Names ends (UnstreamedBy (plain z layers')) 4096 from o f) n by) in
+      let usually = subst (λ (z : ℕ). Names ends (UnstreamedBy (within nesting z false)) 4096 from o f) y (subst (λ (z : ℕ). Names ends (UnstreamedBy (within z layers' false)) 4096 from o f) n by) in
       let whole = subst (λ (z : Option (List ℕ)). Names ends Unstreamed 4096 z o f) is usually in
       stops_at ends l f (part_usually w out out' levels layers' from l n y is part) (subst (λ (z : ℕ). Names ends Unstreamed 4096 l z f) start whole).1
 
@@ -154,10 +154,10 @@ module _ {T : Type 0} (decided : T → Question → T) (told told' : T) (room : 
 
   -- within the limits if none are chosen, from the whole input
   pub taken : (levels layers' : ℕ) (allows : Question → Bool) (aad aad' : List ℕ) (from l l' : Option (List ℕ)) (o at : ℕ) → levels ≡ nesting → layers' ≡ layers → aad' ≡ aad → from ≡ l → o ≡ 0
-      → Moves from l' o at (CopiedBy (plain levels layers') decided allows aad' told told' room lengths C answer) → Taken allows aad answer C l l' at
+      → Moves from l' o at (CopiedBy (within levels layers' false) decided allows aad' told told' room lengths C answer) → Taken allows aad answer C l l' at
   taken levels layers' allows aad aad' from l l' o at n y d f start t =
       subst (λ (z : Option (List ℕ)). Taken allows aad answer C z l' at) f
       (message allows aad from l' o at start
       (subst (λ (z : List ℕ). Moves from l' o at (CopiedBy usual decided allows z told told' room lengths C answer)) d
-      (subst (λ (z : ℕ). Moves from l' o at (CopiedBy (plain nesting z) decided allows aad' told told' room lengths C answer)) y
-      (subst (λ (z : ℕ). Moves from l' o at (CopiedBy (plain z layers') decided allows aad' told told' room lengths C answer)) n t))))
+      (subst (λ (z : ℕ). Moves from l' o at (CopiedBy (within nesting z false) decided allows aad' told told' room lengths C answer)) y
+      (subst (λ (z : ℕ). Moves from l' o at (CopiedBy (within z layers' false) decided allows aad' told told' room lengths C answer)) n t))))

@@ -1,4 +1,4 @@
-use Rattle.cose_gate.specs.CodeLimits.{nesting_of, layers_of}
+use Rattle.std.proofs.Common.{refl}
 use Rattle.cose_gate_program.proofs.Tellings.{ends_as}
 use Rattle.callers.proofs.Told.{handed_on}
 use Rattle.callers.proofs.Reported.{line_if_no_keys}
@@ -9,7 +9,7 @@ returns-clause-ends g c = ends_as c.run_over.ensures.ran (λ ns last told. tt)
 
 pub returns-clause-handed_on : goal.returns-clause-handed_on
 returns-clause-handed_on g c =
-    handed_on (c.output_is_received.ensures.strict (nesting_of c.args.limits) (layers_of c.args.limits)) c.run_over.ensures.ran
+    handed_on refl c.run_over.ensures.ran
 
 pub returns-clause-line : goal.returns-clause-line
 returns-clause-line g c = line_if_no_keys g.E.Write _ _ _ _ _ _ _ _ _ c.run_over.ensures.ran

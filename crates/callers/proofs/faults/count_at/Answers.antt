@@ -1,4 +1,4 @@
-use Rattle.callers.proofs.Stopped.{never_far}
+use Rattle.callers.proofs.Faulted.{never_far}
 use Rattle.callers.proofs.faults.count_at.Goals as goal
 
 pub returns : goal.returns

@@ -1,3 +1,4 @@
+use Rattle.std.proofs.Common.{arith}
 use Rattle.cose_gate.specs.Findings.{usual}
 use Rattle.callers.proofs.Again.{unchanged}
 use Rattle.callers.proofs.twice.relay_twice.Goals as goal
@@ -6,5 +7,5 @@ pub returns : goal.returns
 returns c =
     unchanged usual usual _ _ _ _ _ _ _ _ _ c.in_ok-once.ensures.known c.deref.ensures.value (c.every_input_run.ensures.there usual _ _ 0 _ c.bytes_below.ensures.low)
     c.in_ok-once.ensures.run c.in_ok-again.ensures.run
-    (λ ss rest run. c.output_is_fixed.ensures.there usual usual _ _ 0 0 _ ss rest c.output_is_fixed.ensures.usual run c.bytes_below.ensures.low c.bytes_below.ensures.few)
-    (λ ss rs rest more run next. c.output_is_fixed.ensures.fixed usual usual _ _ 0 0 _ ss rs rest more c.output_is_fixed.ensures.usual run c.bytes_below.ensures.low c.bytes_below.ensures.few next)
+    (λ ss rest run. c.output_is_fixed.ensures.there usual usual _ _ 0 0 _ ss rest (omega arith) (omega arith) run c.bytes_below.ensures.low c.bytes_below.ensures.few)
+    (λ ss rs rest more run next. c.output_is_fixed.ensures.fixed usual usual _ _ 0 0 _ ss rs rest more (omega arith) (omega arith) run c.bytes_below.ensures.low c.bytes_below.ensures.few next)

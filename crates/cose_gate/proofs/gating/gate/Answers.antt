@@ -1,5 +1,6 @@
-use Rattle.cose_gate.proofs.Usual.{gates_usually}
+use Rattle.std.proofs.Common.{false}
+use Rattle.cose_gate.proofs.Usual.{usually}
 use Rattle.cose_gate.proofs.gating.gate.Goals as goal
 
 pub returns : goal.returns
-returns g c = gates_usually c.default.result c.default.ensures c.gate_with.ensures
+returns g c = rw (usually c.default.result false c.default.ensures) at c.gate_with.ensures

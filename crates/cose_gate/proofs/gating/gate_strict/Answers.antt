@@ -1,5 +1,6 @@
-use Rattle.cose_gate.proofs.Usual.{gates_exactly}
+use Rattle.std.proofs.Common.{true}
+use Rattle.cose_gate.proofs.Usual.{usually}
 use Rattle.cose_gate.proofs.gating.gate_strict.Goals as goal
 
 pub returns : goal.returns
-returns g c = gates_exactly c.default.result c.default.ensures c.gate_strict_with.ensures
+returns g c = rw (usually c.default.result true c.default.ensures) at c.gate_strict_with.ensures

@@ -1,7 +1,7 @@
 use Rattle.std.proofs.Common.{rules, ◌≡◌, ℕ, ◌∷◌, ◌++◌, [], refl, map, true, sym, ap, subst, ◌∙◌}
 use Rattle.std.specs.Prelude.{Result, is_ok}
 use Rattle.cose_gate_core.specs.Questions.{Question}
-use Rattle.cose_gate_program.specs.Program.{asked_in}
+use Rattle.cose_gate_core.specs.GateRun.{asked_in}
 use Rattle.cose_gate_program.proofs.Tellings.{ran_as}
 use Rattle.cose_gate_command.specs.Asking.{IsStatus}
 use Rattle.cose_gate_command.specs.Written.{parts_in}

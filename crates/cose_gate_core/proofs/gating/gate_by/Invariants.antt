@@ -1,7 +1,7 @@
 use Rattle.std.proofs.Common.{◌≡◌, ◌+◌, ◌-◌, ◌≤◌, ◌^◌, true, None}
 use Rattle.ciborium_ll.specs.Views.{left_of, offset_of, reader_of, waiting_of}
 use Rattle.cose_gate_core.specs.Terms.{limits_of}
-use Rattle.cose_gate_core.specs.Outcome.{Reached}
+use Rattle.cose_gate_core.specs.Next.{Reached}
 use Rattle.cose_gate_core.proofs.gating.gate_by.Given as goal
 
 abbrev pub invariant-items : goal.invariant-items

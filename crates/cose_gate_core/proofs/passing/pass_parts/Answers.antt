@@ -1,6 +1,6 @@
 use Rattle.std.proofs.Common.{refl}
 use Rattle.coset_recipients.specs.PartsView.{four_of}
-use Rattle.cose_gate_core.specs.Findings.{WrongMessage}
+use Rattle.cose_gate_core.specs.Misshapen.{WrongMessage}
 use Rattle.cose_gate_core.specs.Terms.{limits_of}
 use Rattle.cose_gate_core.specs.declared.report.Refusal.TheVariants.{Shape}
 use Rattle.cose_gate_core.proofs.Exactly.{found_plain}

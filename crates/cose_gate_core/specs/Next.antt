@@ -1,0 +1,77 @@
+-- How far the gate has come, and what one item more makes of that.
+use Rattle.std.specs.Prelude.{◌≡◌, ℕ, ◌+◌, ◌<◌, List, [], length, map, Option, Some, None, Bool, Result, Ok, Err}
+use Rattle.std.specs.Io.KnownBytes.{Appends}
+use Rattle.ciborium_ll.specs.Reading.{Moves}
+use Rattle.ciborium.specs.Front.{HoldsOne}
+use Rattle.ciborium.specs.Fronts.{front_view}
+use Rattle.ciborium.specs.declared.frames.Front.{Front}
+use Rattle.ciborium.specs.Items.{SequenceWithin}
+use Rattle.ciborium.specs.Reading.{IfKnown, IfEnd, IsNoMemory, SomeTaken}
+use Rattle.cose_gate_core.specs.Asked.{folded_over}
+use Rattle.cose_gate_core.specs.GateRun.{Ran}
+use Rattle.cose_gate_core.specs.Misshapen.{NamesShapes}
+use Rattle.cose_gate_core.specs.Outcome.{Rules, GateState, IsFaultOf}
+use Rattle.cose_gate_core.specs.Terms.{IsTaken}
+use Rattle.cose_gate_core.specs.Run.{Step, Steps, questions_of, output_of, entries_of, passed_count, refused_count}
+use Rattle.cose_gate_core.specs.declared.terms.Terms.{Terms}
+use Rattle.cose_gate_core.specs.declared.gating.Counts.{Counts}
+use Rattle.cose_gate_core.specs.declared.gating.GateFault.{GateFault}
+use Rattle.cose_gate_core.specs.declared.gating.GateFault.TheVariants.{Decode, Write, Memory}
+
+-- all of these steps were made: their questions asked, their entries noted, their output written
+pub record Made {T S : Type 0} (rules : Rules T S) (old new : GateState T S)
+    (ss : List Step) : Type 0 where
+  pub told : new.told ≡ folded_over rules.decided old.told (questions_of rules.allows rules.aad ss)
+  pub state : new.state ≡ folded_over rules.folded old.state (entries_of ss)
+  pub written : Appends old.written new.written (output_of rules.allows rules.aad ss)
+
+-- these steps were made, of which so many passed and so many were refused; they took the bytes of
+-- their items
+pub record Reached {T S : Type 0} (rules : Rules T S) (old new : GateState T S)
+    (passed refused : ℕ) : Type 0 where
+  pub done : List Step
+  pub taken : Moves old.left new.left old.offset new.offset
+      (λ b. SequenceWithin rules.limits.nesting old.offset b (map (λ s. s.item) done) [])
+  pub steps : Steps rules.limits rules.allows rules.aad 1 done
+  pub shapes : NamesShapes rules.limits done
+  pub made : Made rules old new done
+  pub passed_is : passed ≡ passed_count rules.allows rules.aad done
+  pub refused_is : refused ≡ refused_count rules.allows rules.aad done
+
+-- what reading the next item gives: it was taken, or no byte was left, and the reader tells so
+-- if it tells what is to come
+abbrev pub IsNext : Terms → Option (List ℕ) → Option (List ℕ) → ℕ → ℕ → Option (Front × Bool)
+    → Type 0
+IsNext terms left left' at at' None = IfKnown left (λ b. (b ≡ []) × (left' ≡ Some [])) × (at' ≡ at)
+IsNext terms left left' at at' (Some r) =
+    Moves left left' at at' (λ b. IsTaken terms b (front_view r.0) r.1)
+
+-- what reading the next item ends with, at the offset at' then: a fault of the bytes that were to
+-- come, if they are known, or being out of memory. Some of these bytes were taken, or none, but
+-- at an end some were, and out of memory none after the item that was due.
+abbrev pub IsReadFault : {E : Type 0} → (E → Bool) → ℕ → Option (List ℕ) → Option (List ℕ) → ℕ → ℕ
+    → GateFault E → Type 0
+IsReadFault ends n left left' at at' (Decode e) =
+    IsNoMemory e
+    × IfKnown left (λ b. IsFaultOf ends n (at + length b) b e)
+    × IfKnown left (λ b. IfEnd ends (at < at') e)
+    × SomeTaken left left' at at' e
+IsReadFault ends n left left' at at' Write = ⊥
+IsReadFault ends n left left' at at' Memory = Moves left left' at at' HoldsOne
+
+-- what became of the next item, seen from the first one on, if so many were counted before it
+abbrev pub NextSince : {T S E : Type 0} → (E → Bool) → Bool → Rules T S → Counts
+    → GateState T S → GateState T S → Result (Option Counts) (GateFault E) → Type 0
+NextSince ends live rules counts first new (Ok (Some next)) =
+    Reached rules first new next.passed next.refused
+NextSince ends live rules counts first new (Ok None) =
+    Ran ends live rules first new (Ok counts)
+NextSince ends live rules counts first new (Err fault) =
+    Ran ends live rules first new (Err fault)
+
+-- the gate goes on by the next item, whatever was seen first of the items that were counted
+abbrev pub GoesOn : {T S E : Type 0} → (E → Bool) → Rules T S → Counts → GateState T S → GateState T S
+    → Result (Option Counts) (GateFault E) → Type 0
+GoesOn {T} {S} ends rules counts old new r =
+    (live : Bool) (first : GateState T S) → Reached rules first old counts.passed counts.refused
+    → NextSince ends live rules counts first new r
