@@ -8,7 +8,7 @@ use Rattle.ciborium_ll.specs.declared.hdr.Header.TheVariants.{Positive, Negative
 use Rattle.ciborium_ll.specs.declared.hdr.Header.TheVariants as all
 use Rattle.ciborium_ll.specs.Title.{header_by}
 use Rattle.ciborium_ll.specs.Views.{last_head, last_major, last_number, last_length}
-use Rattle.ciborium.specs.Reading.{IsLeaf, string_head}
+use Rattle.ciborium.specs.Reading.{string_head}
 
 pub positive_head : {R : Type 0} (d : Decoder R) → last_major d ≡ 0 → last_head d ≡ Positive (last_number d)
 positive_head d e = rw e refl
@@ -37,10 +37,6 @@ by_major P m info n positive negative bytes text array map tag float break simpl
     cond_both (nat_eq info 26) _ _ P (λ _. float _) (λ _.
     cond_both (nat_eq info 27) _ _ P (λ _. float _) (λ _.
     cond_both (nat_eq info 31) _ _ P (λ _. break) (λ _. simple _)))))))))))
-
-pub other_head : {R : Type 0} (d : Decoder R) → last_major d ≢ 4 → last_major d ≢ 5 → last_major d ≢ 6 → IsLeaf (last_head d)
-other_head d no_array no_map no_tag =
-    by_major IsLeaf (last_major d) _ (last_number d) (λ _. tt) (λ _. tt) (λ _ _. tt) (λ _ _. tt) (λ e. absurd (no_array e)) (λ e. absurd (no_map e)) (λ e. absurd (no_tag e)) (λ _. tt) tt (λ _. tt)
 
 -- a string of a kind has its major type
 no_string_head : {R : Type 0} (text : Bool) (d : Decoder R) → last_major d ≢ cond text 3 2 → (o : Option ℕ) → last_head d ≢ string_head text o

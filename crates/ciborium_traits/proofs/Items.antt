@@ -9,7 +9,7 @@ use Rattle.ciborium_value.specs.declared.kind.Kind.{Kind}
 use Rattle.ciborium_value.specs.declared.kind.Kind.TheVariants.{Length}
 use Rattle.ciborium_value.specs.declared.value.Value.{Value}
 use Rattle.ciborium_value.specs.Tree as spec
-use Rattle.ciborium_value.specs.Tree.{Tree, Trees, no_trees, one_more, tree_count}
+use Rattle.ciborium_value.specs.Tree.{Tree, Trees, one_more, tree_count}
 use Rattle.ciborium_value.specs.View.{view, views, view_pairs}
 use Rattle.ciborium_traits.specs.declared.error.Error.{Error}
 use Rattle.ciborium_traits.specs.declared.error.Error.TheVariants as error
@@ -145,10 +145,6 @@ pub not_so_many : (n : ℕ) (t : Tree) (vs : List Value) → t ≡ spec.array (v
 not_so_many n t vs e d =
     ap (array_refusal (other_length n)) e
     ∙ ap (λ z. cond z None (Some Length)) (counts_differ (tree_count (views vs)) n (λ h. d (sym (views_counted vs) ∙ h)))
-
-pub none_counted : (ts : Trees) → tree_count ts ≡ 0 → ts ≡ no_trees
-none_counted no_trees e = refl
-none_counted (one_more t ts) e = absurd (omega (arith, e))
 
 pub if_err : {T E : Type 0} {P Q : E → Type 0} (r : Result T E) → ((e : E) → P e → Q e) → IfErr r P → IfErr r Q
 if_err (Ok x) f h = tt

@@ -92,10 +92,6 @@ map_folded a v xs w i e l h t =
     ap fold (ap view e ∙ view_map v) ∙ ap (λ z. option_map spec.map (fold_entries z)) (sym l)
     ∙ ap (option_map spec.map) (entries_folded xs w.items (h ∙ ap (map folds_of) t)) ∙ ap Some (sym (view_map w))
 
--- a tag over what its content folds to
-pub tag_none : (a : Value) (n : ℕ) (b : Box Value Global) (v : Value) → a ≡ code.Tag n b → v ≡ b.value → fold (view v) ≡ None → fold (view a) ≡ None
-tag_none a n b v e l f = ap fold (ap view e ∙ view_tag n b) ∙ ap (λ z. option_and_then (tagged n) (fold (view z))) (sym l) ∙ ap (option_and_then (tagged n)) f
-
 pub tag_folded : (a : Value) (n : ℕ) (b : Box Value Global) (v c : Value) → a ≡ code.Tag n b → v ≡ b.value → fold (view v) ≡ Some (view c) → fold (view a) ≡ tagged n (view c)
 tag_folded a n b v c e l f = ap fold (ap view e ∙ view_tag n b) ∙ ap (λ z. option_and_then (tagged n) (fold (view z))) (sym l) ∙ ap (option_and_then (tagged n)) f
 

@@ -1,6 +1,5 @@
 -- The lengths of encodings.
 use Rattle.std.proofs.Common.{◌≡◌, ℕ, zero, suc, ◌+◌, ◌<◌, ◌≤◌, ◌^◌, min, List, [], ◌∷◌, ◌++◌, length, drop, take, get_or, length-append, refl, ap, sym, subst, ◌∙◌, Vec, Global, arith}
-use Rattle.std.proofs.lemmas.List.{take_all}
 use Rattle.ciborium_ll.specs.Title.{shortest}
 use Rattle.ciborium_value.specs.Tree.{tree_count, pair_count}
 use Rattle.ciborium_value.specs.Encoding.{enc, enc_all, enc_pairs}
@@ -47,12 +46,6 @@ entries_none [] zero p = refl
 entries_none [] (suc i) p = refl
 entries_none (a ∷ xs) zero p = absurd (omega (arith, p))
 entries_none (a ∷ xs) (suc i) p = entries_none xs i (omega (arith, p))
-
-pub items_sized : (xs : List Value) (i : ℕ) → length xs ≤ i → SizedAll (views (take i xs)) → SizedAll (views xs)
-items_sized xs i l = subst (λ z. SizedAll (views z)) (take_all i xs l)
-
-pub entries_sized : (xs : List (Value × Value)) (i : ℕ) → length xs ≤ i → SizedPairs (view_pairs (take i xs)) → SizedPairs (view_pairs xs)
-entries_sized xs i l = subst (λ z. SizedPairs (view_pairs z)) (take_all i xs l)
 
 step_at : (xs : List Value) (i : ℕ) (x : Value) → i < length xs → x ≡ get_or xs i x → SizedAll (views (take i xs)) → Sized (view x)
     → (length (enc_all (views (drop i xs))) ≡ length (enc (view x)) + length (enc_all (views (drop (suc i) xs)))) × SizedAll (views (take (suc i) xs))
