@@ -1,15 +1,16 @@
 -- What is found of an item before a judge is asked: a message that is judged, or why it is none
 -- (RFC 9052, section 2, has the tags).
-use Rattle.std.specs.Prelude.{◌≡◌, ◌≢◌, ℕ, ◌⊎◌, List, [], Option, Some, None, Bool, true, false, if◌then◌else◌, nat_eq}
+use Rattle.std.specs.Prelude.{◌≡◌, ◌≢◌, ℕ, ◌⊎◌, List, [], Option, Some, None, Bool, true, false, if◌then◌else◌, nat_eq, Result, MatchResult}
 use Rattle.std.specs.Cmp.Lexicographic.{pointwise}
 use Rattle.ciborium_value.specs.Tree.{Tree, tag}
-use Rattle.coset_labels.specs.Faults.{CoseFault}
+use Rattle.coset_labels.specs.Faults.{CoseFault, OrMemory}
+use Rattle.coset_labels.specs.declared.error.CoseError.{CoseError}
 use Rattle.coset_labels.specs.Limits.{nesting as usual_nesting, layers as usual_layers}
 use Rattle.coset_signed.specs.Shapes.{HasSign1, HasSign}
 use Rattle.coset_signed.specs.Wrong.{WrongSign1, WrongSign}
 use Rattle.coset_maced.specs.Shapes.{HasMac0, HasMac}
 use Rattle.coset_maced.specs.Wrong.{WrongMac0, WrongMac}
-use Rattle.cose_gate_core.specs.Questions.{MessageFields, sign1, mac0, sign, mac, number_of, tag_of, payload_of, message_text}
+use Rattle.cose_gate_core.specs.Questions.{MessageFields, sign1, mac0, sign, mac, number_of, tag_of, payload_of, message_text, kind_of}
 use Rattle.cose_gate_core.specs.declared.about.MessageKind.{MessageKind}
 use Rattle.cose_gate_core.specs.declared.about.MessageKind.TheVariants as kind
 use Rattle.cose_gate_core.specs.declared.report.Refusal.{Refusal}
@@ -82,6 +83,11 @@ WrongMessage limits kind.Sign1 u f = WrongSign1 limits.nesting u limits.layers f
 WrongMessage limits kind.Mac0 u f = WrongMac0 limits.nesting u limits.layers f
 WrongMessage limits kind.Sign u f = WrongSign limits.nesting u limits.layers f
 WrongMessage limits kind.Mac u f = WrongMac limits.nesting u limits.layers f
+
+-- what reading a value as a message of a kind gives: its fields are those of m, or it has a fault
+abbrev pub IsReadAs : Bounds → MessageKind → MessageFields → Tree → Result Unit CoseError → Type 0
+IsReadAs limits k m u r =
+    MatchResult r (λ _. (kind_of m ≡ k) × HasMessage limits u m) (λ e. OrMemory (WrongMessage limits k u) e)
 
 -- a tagged message
 abbrev pub IsMessage : Bounds → Tree → MessageFields → Type 0

@@ -2,8 +2,8 @@
 use Rattle.std.specs.Prelude.{◌≡◌, ◌≢◌, ℕ, ◌+◌, ◌^◌, ◌<◌, ◌≤◌, ◌⊎◌, List, [], ◌∷◌, ◌++◌, length, map, Option, Some, None, Bool, true, IsTrue, Result, Ok, Err, if◌then◌else◌}
 use Rattle.std.specs.Io.KnownBytes.{Appends}
 use Rattle.ciborium_ll.specs.Reading.{Moves}
-use Rattle.ciborium.specs.Front.{HoldsOne}
-use Rattle.ciborium.specs.Fronts.{front_view}
+use Rattle.ciborium_value.specs.Tree.{Tree}
+use Rattle.ciborium.specs.Front.{Reads, HoldsOne}
 use Rattle.ciborium.specs.declared.frames.Front.{Front}
 use Rattle.ciborium.specs.Items.{SequenceWithin}
 use Rattle.ciborium.specs.Damage.{end, deep, syntax, semantic, Damage}
@@ -13,9 +13,12 @@ use Rattle.ciborium.specs.declared.de.Error.TheVariants as de
 use Rattle.cose_gate_core.specs.Questions.{Question}
 use Rattle.cose_gate_core.specs.Asked.{folded_over, IsFront}
 use Rattle.cose_gate_core.specs.Findings.{Bounds}
-use Rattle.cose_gate_core.specs.Terms.{IsTaken}
+use Rattle.cose_gate_core.specs.Passing.{ItemRules, ItemSight, WentThrough, ItemFails, stopped_by}
+use Rattle.cose_gate_core.specs.Terms.{IsTakenFront}
 use Rattle.cose_gate_core.specs.Run.{Step, Steps, Course, questions_of, output_of, written_of, passes, entries_of, passed_count, refused_count}
+use Rattle.cose_gate_core.specs.declared.passing.ItemFault.{ItemFault}
 use Rattle.cose_gate_core.specs.declared.report.Entry.{Entry}
+use Rattle.cose_gate_core.specs.declared.report.Verdict.{Verdict}
 use Rattle.cose_gate_core.specs.declared.terms.Terms.{Terms}
 use Rattle.cose_gate_core.specs.declared.gating.Counts.{Counts}
 use Rattle.cose_gate_core.specs.declared.gating.GateFault.{GateFault}
@@ -74,8 +77,7 @@ IsFaultOf ends n stop more de.TooLong = 2 ^ 64 ≤ stop + 4096
 abbrev pub IsNext : Terms → Option (List ℕ) → Option (List ℕ) → ℕ → ℕ → Option (Front × Bool)
     → Type 0
 IsNext terms left left' at at' None = IfKnown left (λ b. (b ≡ []) × (left' ≡ Some [])) × (at' ≡ at)
-IsNext terms left left' at at' (Some r) =
-    Moves left left' at at' (λ b. IsTaken terms b (front_view r.0) r.1)
+IsNext terms left left' at at' (Some r) = Moves left left' at at' (IsTakenFront terms r.0 r.1)
 
 -- what reading the next item ends with, at the offset at' then: a fault of the bytes that were to
 -- come, if they are known, or being out of memory. Some of these bytes were taken, or none, but
@@ -89,6 +91,25 @@ IsReadFault ends n left left' at at' (Decode e) =
     × SomeTaken left left' at at' e
 IsReadFault ends n left left' at at' Write = ⊥
 IsReadFault ends n left left' at at' Memory = Moves left left' at at' HoldsOne
+
+-- What became of the next item before it is noted. It was taken and went through, or stopped; or it
+-- was not, and nothing was told or written.
+abbrev pub Passes : {T E : Type 0} → (E → Bool) → ItemRules T → Option (List ℕ) → Option (List ℕ) → ℕ → ℕ
+    → ItemSight T → ItemSight T → Result Verdict (GateFault E) → Type 0
+Passes ends rules left left' at at' old new (Ok v) =
+    (t : Tree) × Moves left left' at at' (λ b. Reads b rules.limits.nesting t × WentThrough rules b t old new v)
+Passes ends rules left left' at at' old new (Err f) =
+    ((t : Tree) × (i : ItemFault) × (f ≡ stopped_by i)
+    × Moves left left' at at' (λ b. Reads b rules.limits.nesting t × ItemFails rules b t old new i))
+    ⊎ (IsReadFault ends rules.limits.nesting left left' at at' f × (new ≡ old))
+
+-- the same, or no byte was left
+abbrev pub PassesNext : {T E : Type 0} → (E → Bool) → ItemRules T → Option (List ℕ) → Option (List ℕ) → ℕ → ℕ
+    → ItemSight T → ItemSight T → Result (Option Verdict) (GateFault E) → Type 0
+PassesNext ends rules left left' at at' old new (Ok (Some v)) = Passes ends rules left left' at at' old new (Ok v)
+PassesNext ends rules left left' at at' old new (Ok None) =
+    IfKnown left (λ b. (b ≡ []) × (left' ≡ Some [])) × (at' ≡ at) × (new ≡ old)
+PassesNext ends rules left left' at at' old new (Err f) = Passes ends rules left left' at at' old new (Err f)
 
 -- the gate is in `more`, the last bytes of the input: some of them were taken, none or all as it
 -- may be, and the offset is as far before the end of the input as the rest of them is long. If P,
