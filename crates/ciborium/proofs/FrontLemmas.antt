@@ -1,6 +1,6 @@
 -- Four items in an array under a tag, after the heads of the array and the tag.
 use Rattle.std.proofs.Common.{◌≡◌, ◌≢◌, ◌≤◌, ◌<◌, ◌-◌, ◌⊎◌, inl, inr, ℕ, Bool, List, ◌++◌, Option, Some, Result, Ok, Err, refl, sym, ap, subst, ◌∙◌, arith, append_assoc}
-use Rattle.std.specs.Prelude.{IfOk, IfErr}
+use Rattle.std.specs.Prelude.{IfOk, IfErr, IsErrAnd}
 use Rattle.ciborium_ll.specs.Reading.{Moves}
 use Rattle.ciborium_ll.specs.Seen.{Seen, Takes}
 use Rattle.ciborium_ll.specs.declared.hdr.Header.{Header}
@@ -15,8 +15,8 @@ use Rattle.ciborium.specs.Damage.{Fault, Damage, in_child, in_array}
 use Rattle.ciborium.specs.Front.{Reads, ReadsAll, Fronts, HoldsOne}
 use Rattle.ciborium.specs.Frames.{snoc}
 use Rattle.ciborium.specs.Fronts.{IsFront, IsTagged, FourDamage, FourOne, TakesItem, TakesFour}
-use Rattle.ciborium.specs.Reading.{IfKnown, FailsAt, IfMemory, ReadsAfterTitle, Leaves, Steady, failures}
-use Rattle.ciborium.proofs.Taking.{takes_then, takes_none, fails_behind}
+use Rattle.ciborium.specs.Reading.{IfKnown, FailsAt, IfMemory, NamesFault, TakesSome, ReadsAfterTitle, Leaves, Steady, failures}
+use Rattle.ciborium.proofs.Taking.{takes_as, takes_then, takes_none, fails_behind}
 use Rattle.ciborium.proofs.Halting.{some_then, memory_then}
 use Rattle.ciborium.proofs.ReadLemmas.{all_none, all_more}
 use Rattle.ciborium.proofs.LevelLemmas.{begins}
@@ -118,3 +118,23 @@ four_taken ends n limit P r old mid new which t w = record {
   where
     joined : (b z : List ℕ) (h : IsFront limit (code.Four n) b) → h.1.outer ++ (h.1.inner ++ z) ≡ b ++ z
     joined b z h = sym (append_assoc h.1.outer h.1.inner z) ∙ ap (λ c. c ++ z) (sym h.1.whole)
+
+-- a fault of one of the four
+pub four_stops : {T E : Type 0} (ends : E → Bool) (limit : ℕ) (P : T → Trees → Type 0) (done : Trees) (start mid new : Seen) (e : Error E) (r : Result T (Error E)) → IsErrAnd r (λ x. x ≡ e) → tree_count done < 4
+    → Takes start mid (λ b. ReadsAll b limit done) → NamesFault ends (λ stop b f. Damage stop b limit f) mid new e → TakesSome mid new e → IfMemory (Takes mid new HoldsOne) e → TakesFour ends limit P r start new
+four_stops ends limit P done start mid new e (Ok x) h few t w s o = absurd h
+four_stops ends limit P done start mid new e (Err x) h few t w s o = record {
+  ok = tt;
+  err = subst (NamesFault ends (λ stop b f. FourDamage limit stop b f) start new) (sym h) (four_fails ends limit done start.left mid.left start.offset mid.offset new.offset e few t w);
+  stops = subst (TakesSome start new) (sym h) (some_then new.left new.offset e t s);
+  one = subst (IfMemory (Takes start new (FourOne limit))) (sym h) (four_memory limit done start.left mid.left new.left start.offset mid.offset new.offset e few t o);
+}
+
+-- all four were taken
+pub four_all : {T E : Type 0} (ends : E → Bool) (limit : ℕ) (P : T → Trees → Type 0) (ts : Trees) (start new : Seen) (x : T) → Takes start new (λ b. ReadsAll b limit ts) → tree_count ts ≡ 4 → P x ts → TakesFour {E = E} ends limit P (Ok x) start new
+four_all ends limit P ts start new x t four p = record {
+  ok = takes_as start.left new.left start.offset new.offset (λ b. ReadsAll b limit ts) (λ b. (ts : Trees) × ReadsAll b limit ts × (tree_count ts ≡ 4) × P x ts) t (λ b r. (ts, r, four, p));
+  err = tt;
+  stops = tt;
+  one = tt;
+}

@@ -1,22 +1,27 @@
 -- A map that is read entry by entry.
 use Rattle.std.proofs.Common.{◌≡◌, ◌≢◌, ◌≤◌, ◌<◌, ◌+◌, ◌-◌, ◌*◌, ℕ, Bool, false, List, [], ◌∷◌, ◌++◌, length, Option, None, Some, refl, sym, ap, subst, ◌∙◌, arith, append_assoc, length-append, nat_eq}
 use Rattle.std.specs.Option.{option_map}
+use Rattle.std.specs.Prelude.{Result, Ok, Err, IsErrAnd}
+use Rattle.ciborium_ll.specs.Seen.{Seen, Takes}
 use Rattle.std.proofs.lemmas.Bool.Decides.{nat_tests}
 use Rattle.ciborium_ll.specs.Reading.{Moves}
 use Rattle.ciborium_ll.specs.declared.hdr.Header.{Header}
 use Rattle.ciborium_ll.specs.declared.hdr.Header.TheVariants.{Break, Map}
 use Rattle.ciborium_ll.specs.Title.{Title}
 use Rattle.ciborium_value.specs.Tree.{Tree, map as map_tree, Trees, flat, tree_count}
-use Rattle.ciborium_value.specs.View.{pairs}
+use Rattle.ciborium_value.specs.View.{view, pairs}
+use Rattle.ciborium_value.specs.declared.value.Value.{Value}
 use Rattle.ciborium.specs.declared.de.Error.{Error}
 use Rattle.ciborium.specs.declared.maps.MapReader.{MapReader}
 use Rattle.ciborium.specs.Damage.{Fault, Damage, in_title, in_child, Due, TitleDamage}
 use Rattle.ciborium.specs.Front.{Reads, ReadsAll, HoldsOne}
 use Rattle.ciborium.specs.Frames.{snoc}
-use Rattle.ciborium.specs.Maps.{InMap}
-use Rattle.ciborium.specs.Reading.{IfKnown, FailsAt, FailsAfterTitle, Closes, ChildrenAfterHead, IsNext, is_full}
+use Rattle.ciborium.specs.Maps.{InMap, NextEntry}
+use Rattle.ciborium.specs.Reading.{IfKnown, FailsAt, FailsAfterTitle, NamesFault, NamesFaultAfterTitle, TakesSome, IsNoMemory, IfMemory, OneAfterTitle, ReadsAfterTitle, Closes, ChildrenAfterHead, IsNext, is_full}
 use Rattle.ciborium.proofs.Words.{FitsIn}
-use Rattle.ciborium.proofs.Taking.{takes_then, fails_behind}
+use Rattle.ciborium.proofs.Halting.{some_then, not_memory, memory_then}
+use Rattle.ciborium.proofs.Taking.{takes_as, takes_then, fails_behind}
+use Rattle.ciborium.proofs.StringLemmas.{title_some}
 use Rattle.ciborium.proofs.ReadLemmas.{all_none, all_more, flat_more, snoc_count}
 use Rattle.ciborium.proofs.LevelLemmas.{begins}
 use Rattle.ciborium.proofs.ChildLemmas.{Begun, fails_begun, map_read, map_due, value_due, not_all, title_no_break, begun_no_break}
@@ -176,3 +181,68 @@ module _ {E : Type 0} (ends : E → Bool) (limit : ℕ) (m : MapReader) (ps : Li
 pub key_begun_one : (limit : ℕ) (m : MapReader) (ps : List (Tree × Tree)) (h : Header) (b q rest : List ℕ) → is_full m.left 0 ≡ false → IsNext m.left 0 h → InMap limit m ps b → Title q h → HoldsOne (q ++ rest)
     → HoldsOne (b ++ (q ++ rest))
 key_begun_one limit m ps h b q rest full n s t one = key_one limit m ps b (q ++ rest) full (no_break m h rest q n t) s one
+
+-- ---- what the next entry shows
+-- a fault, seen from where the map began
+abbrev pub FailsIn : {E : Type 0} → (E → Bool) → ℕ → Seen → Seen → Error E → Type 0
+FailsIn ends limit start now e = NamesFault ends (λ stop b f. Damage stop b limit f) start now e × TakesSome start now e × IfMemory (Takes start now HoldsOne) e
+
+module _ {E : Type 0} (ends : E → Bool) (limit : ℕ) (m m' : MapReader) (ps : List (Tree × Tree)) (start old : Seen) (t : Takes start old (InMap limit m ps)) where
+  pub ends_by : (now : Seen) (r : Result (Option (Value × Value)) (Error E)) (e : Error E) → IsErrAnd r (λ x. x ≡ e) → FailsIn ends limit start now e → NextEntry ends limit start now m' ps r
+  ends_by now (Ok x) e h w = absurd h
+  ends_by now (Err x) e h w = record { whole = tt; more = tt; err = subst (NamesFault ends (λ stop b f. Damage stop b limit f) start now) (sym h) w.0; stops = subst (TakesSome start now) (sym h) w.1; one = subst (IfMemory (Takes start now HoldsOne)) (sym h) w.2 }
+
+  pub at_title : (now : Seen) (e : Error E) → is_full m.left 0 ≡ false → NamesFault ends TitleDamage old now e → TakesSome old now e → IsNoMemory e → FailsIn ends limit start now e
+  at_title now e full w s n =
+      (title_fails ends limit m ps start.left old.left start.offset old.offset full now.offset e t w, some_then now.left now.offset e t s, not_memory (Takes start now HoldsOne) e n)
+
+  pub at_key : (mid now : Seen) (h : Header) (at : ℕ) (K : List ℕ → Type 0) (e : Error E) → is_full m.left 0 ≡ false → IsNext m.left 0 h → at ≡ old.offset → Takes old mid (λ b. Title b h × K b)
+      → NamesFaultAfterTitle ends h at (λ stop b f. Damage stop b m.limit f) mid now e → TakesSome mid now e → IfMemory (Takes mid now (OneAfterTitle h)) e → FailsIn ends limit start now e
+  at_key mid now h at K e full n same u w s o =
+      let title : Takes old mid (λ b. Title b h) = takes_as old.left mid.left old.offset mid.offset _ _ u (λ x p. p.0) in
+      (key_fails ends limit m ps start.left old.left start.offset old.offset full h mid.left mid.offset now.offset e t n title
+      (subst (λ (z : ℕ). FailsAfterTitle ends h z mid.offset mid.left now.offset (λ stop b f. Damage stop b m.limit f) e) same w),
+      some_then now.left now.offset e t (some_then now.left now.offset e u s),
+      memory_then start.left old.left now.left start.offset old.offset now.offset (InMap limit m ps) (λ b. (q rest : List ℕ) × Title q h × HoldsOne b × (b ≡ q ++ rest)) HoldsOne e t
+      (λ x y p d. subst (λ (z : List ℕ). HoldsOne (x ++ z)) (sym d.4) (key_begun_one limit m ps h x d.0 d.1 full n p d.2 (subst HoldsOne d.4 d.3)))
+      (memory_then old.left mid.left now.left old.offset mid.offset now.offset (λ b. Title b h) (OneAfterTitle h) (λ b. (q rest : List ℕ) × Title q h × HoldsOne b × (b ≡ q ++ rest)) e title
+      (λ x y p d. (x, y, p, d x p, refl)) o))
+
+  -- the bytes up to a key
+  key_taken : (mid now : Seen) (h : Header) (K : List ℕ → Type 0) (k : Tree) → Takes old mid (λ b. Title b h × K b) → Takes mid now (ReadsAfterTitle h m.limit k) → Takes start now (KeyTaken limit m ps k)
+  key_taken mid now h K k u v =
+      takes_then start.left old.left now.left start.offset old.offset now.offset (InMap limit m ps) (λ b. Reads b m.limit k) (KeyTaken limit m ps k) t
+      (takes_then old.left mid.left now.left old.offset mid.offset now.offset (λ b. Title b h × K b) (ReadsAfterTitle h m.limit k) (λ b. Reads b m.limit k) u v (λ x y p r. r x p.0))
+      (λ x y p r. record { before = x; key = y; inside = p; reads = r; joined = refl })
+
+  pub at_value : (mid keyed now : Seen) (h : Header) (K : List ℕ → Type 0) (k : Tree) (e : Error E) → is_full m.left 0 ≡ false → Takes old mid (λ b. Title b h × K b) → Takes mid keyed (ReadsAfterTitle h m.limit k)
+      → NamesFault ends (λ stop b f. Damage stop b m.limit f) keyed now e → TakesSome keyed now e → IfMemory (Takes keyed now HoldsOne) e → FailsIn ends limit start now e
+  at_value mid keyed now h K k e full u v w s o =
+      let before = key_taken mid keyed h K k u v in
+      (value_fails ends limit m ps start.left keyed.left start.offset keyed.offset full k now.offset e before w,
+      some_then now.left now.offset e before s,
+      memory_then start.left keyed.left now.left start.offset keyed.offset now.offset (KeyTaken limit m ps k) HoldsOne HoldsOne e before (λ x y p one. value_one limit m ps k x y full p one) o)
+
+  pub at_end : (now : Seen) → Takes old now (Closes m.left 0) → NextEntry ends limit start now m' ps (Ok None)
+  at_end now u = record {
+    whole = takes_then start.left old.left now.left start.offset old.offset now.offset (InMap limit m ps) (Closes m.left 0) (λ b. Reads b limit (map_tree (pairs ps))) t u (λ x y p c. map_whole limit m ps x y p c);
+    more = tt;
+    err = tt;
+    stops = tt;
+    one = tt;
+  }
+
+  pub at_entry : (mid keyed now : Seen) (h : Header) (K : List ℕ → Type 0) (k v : Value) → is_full m.left 0 ≡ false → m'.left ≡ option_map (λ n. n - 1) m.left → m'.limit ≡ m.limit
+      → Takes old mid (λ b. Title b h × K b) → Takes mid keyed (ReadsAfterTitle h m.limit (view k)) → Takes keyed now (λ b. Reads b m.limit (view v)) → NextEntry ends limit start now m' ps (Ok (Some (k, v)))
+  at_entry mid keyed now h K k v full e l u w x = record {
+    whole = tt;
+    more = takes_then start.left keyed.left now.left start.offset keyed.offset now.offset (KeyTaken limit m ps (view k)) (λ b. Reads b m.limit (view v)) (InMap limit m' (ps ++ (view k, view v) ∷ []))
+        (key_taken mid keyed h K (view k) u w) x (λ a b p r. map_more limit m m' ps (view k) (view v) a b full e l p r);
+    err = tt;
+    stops = tt;
+    one = tt;
+  }
+
+-- its title takes a byte at least
+pub entry_grows : (old mid keyed now : Seen) (h : Header) (K P Q : List ℕ → Type 0) → Takes old mid (λ b. Title b h × K b) → Takes mid keyed P → Takes keyed now Q → old.offset < now.offset
+entry_grows old mid keyed now h K P Q t u v = omega (arith, t.grown, title_some t.bytes h t.has.0, u.grown, v.grown)

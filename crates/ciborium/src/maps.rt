@@ -1,5 +1,5 @@
 //! Reads maps entry by entry.
-ghost use Rattle.std.specs.Prelude.{◌≡◌, ◌<◌, ◌-◌, ℕ, List, None, false, option_map};
+ghost use Rattle.std.specs.Prelude.{◌≡◌, ◌<◌, ◌-◌, ◌^◌, ℕ, List, None, false, option_map};
 ghost use Rattle.std.specs.Prelude.{IfOk, IfErr, IfSome};
 ghost use Rattle.ciborium_ll.specs.Seen.{Seen, Takes};
 ghost use Rattle.ciborium_ll.specs.Views.{offset_of, waiting_of, seen};
@@ -85,6 +85,7 @@ impl MapReader {
         ensures grows { IfOk result (λ o. IfSome o (λ _.
             offset_of decoder.old < offset_of decoder.new)) }
         ensures steady { Steady R.ends result (seen R.Read decoder.old) (seen R.Read decoder.new) }
+        ensures fits { offset_of decoder.new < 2 ^ 64 }
     {
         let at = decoder.offset();
         let more = next_part(decoder, self.left, 0)?;

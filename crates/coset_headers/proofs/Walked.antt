@@ -1,9 +1,21 @@
 -- Headers that are read entry by entry.
-use Rattle.std.proofs.Common.{◌≡◌, ℕ, pos, inl, inr, List, [], ◌∷◌, ◌++◌, Bool, true, false, Option, Some, None, Result, Ok, Err, refl, sym, ap, subst, ◌∙◌, append_assoc}
-use Rattle.std.specs.Prelude.{MatchResult, is_ok}
-use Rattle.ciborium_value.specs.Tree.{Tree, integer, map as map_tree, Pairs, no_pairs, pair_more}
-use Rattle.ciborium_value.specs.View.{pairs}
+use Rattle.std.proofs.Common.{◌≡◌, ◌≢◌, ◌<◌, ◌≤◌, ◌+◌, ◌-◌, ℕ, pos, inl, inr, List, [], ◌∷◌, ◌++◌, length, Bool, true, false, Option, Some, None, Result, Ok, Err, refl, sym, ap, subst, ◌∙◌, arith, append_assoc, append-nil, length-append}
+use Rattle.std.specs.Prelude.{MatchResult, IsErrAnd, is_ok}
+use Rattle.std.specs.Io.KnownBytes.{Consumes}
+use Rattle.ciborium_ll.specs.Reading.{Moves}
+use Rattle.ciborium_ll.specs.Seen.{Seen, Takes}
+use Rattle.ciborium_value.specs.Tree.{Tree, bytes, integer, map as map_tree, Pairs, no_pairs, pair_more}
+use Rattle.ciborium_value.specs.View.{view, pairs}
+use Rattle.ciborium_value.specs.declared.value.Value.{Value}
 use Rattle.ciborium_value.specs.Kinds.{is_map}
+use Rattle.ciborium.specs.Damage.{Damage}
+use Rattle.ciborium.specs.Front.{Reads, HoldsOne}
+use Rattle.ciborium.specs.Fronts.{TakesItem}
+use Rattle.ciborium.specs.Maps.{InMap, NextEntry}
+use Rattle.ciborium.specs.Reading.{NamesFault, TakesSome, IfMemory}
+use Rattle.ciborium.specs.declared.de.Error.{Error}
+use Rattle.ciborium.specs.declared.maps.MapReader.{MapReader}
+use Rattle.ciborium.proofs.Taking.{takes_as}
 use Rattle.coset_labels.specs.Fields.{LabelFields, number}
 use Rattle.coset_labels.specs.Faults.{CoseFault, OrMemory, fault_of}
 use Rattle.coset_labels.specs.Labels.{label_of, WrongLabel}
@@ -11,14 +23,18 @@ use Rattle.coset_labels.specs.Walks.{WrongEntries}
 use Rattle.coset_labels.specs.declared.error.CoseError.{CoseError}
 use Rattle.coset_labels.specs.declared.label.Label.{Label}
 use Rattle.coset_labels.specs.declared.seen_labels.SeenLabels.{SeenLabels}
-use Rattle.coset_headers.specs.Headers.{entries, at, IsIn, HasHeader, HasSigned}
-use Rattle.coset_headers.specs.Parts.{plain_of, signs_of, KnownIn, Added}
+use Rattle.coset_headers.specs.Fields.{HeaderFields, no_header, protected, Signatures}
+use Rattle.coset_headers.specs.Headers.{entries, at, IsIn, HasHeader, HasProtected, HasSigned}
+use Rattle.coset_headers.specs.Parts.{plain_of, signs_of, SeesLabels, Known, KnownIn, Added, SignsNext}
 use Rattle.coset_headers.specs.View.{header_view}
+use Rattle.coset_headers.specs.Walks.{Inside, WrongInside, IsHeader}
 use Rattle.coset_headers.specs.Wrong.{WrongField, wrong_alg, wrong_crit, wrong_content_type, wrong_key_id, wrong_iv, wrong_partial_iv, WrongHeader, no_map, at_entry, WrongEntry, bad_label, label_again, bad_field, two_ivs, bad_signatures, WrongSigned}
 use Rattle.coset_headers.specs.declared.header.Header.{Header}
 use Rattle.coset_headers.proofs.Alike.{header_is}
+use Rattle.coset_headers.proofs.Empty.{length_zero}
 use Rattle.coset_headers.proofs.Entered.{entries_snoc}
-use Rattle.coset_headers.proofs.Steps.{passed_on}
+use Rattle.coset_headers.proofs.Fresh.{sees_none, known_none}
+use Rattle.coset_headers.proofs.Steps.{passed_on, known_signed, inside_wrong}
 
 -- ---- counter signatures by themselves
 -- the header that has no other field
@@ -118,3 +134,92 @@ all_read n k ps s h (Ok x) w =
     subst (λ z. HasHeader n (map_tree (pairs ps)) z k) (sym (header_is h)) (pairs ps, w.0, refl, w.1, w.2.known.distinct, w.2.known.plain, w.2.known.signed)
 all_read n k ps s h (Err e) w = passed_on (WrongEntries label_of (λ es l v f. WrongEntry n es l v k f) (pairs ps)) (WrongHeader n (map_tree (pairs ps)) k) e
     (λ y. subst (λ z. WrongHeader n (map_tree z) k (fault_of e)) (sym y.are) (at_entry y.before y.after y.key y.value y.es k (fault_of e) y.read_before y.wrong)) w
+
+-- ---- one entry
+pub signs_fault : (n k : ℕ) (es : List (LabelFields × Tree)) (l v : Tree) (s : SeenLabels Label) (e : CoseError) → SignsNext es l s → OrMemory (WrongSigned n v k) e → OrMemory (WrongEntry n es l v k) e
+signs_fault n k es l v s e x w = passed_on (WrongSigned n v k) (WrongEntry n es l v k) e (λ y. bad_signatures es l v k x.label (fault_of e) x.is x.fresh x.signs y) w
+
+pub signs_read : (n k : ℕ) (es : List (LabelFields × Tree)) (l v : Tree) (s : SeenLabels Label) (old new : Header) (ss : Signatures) → Known n es (plain_of old) (signs_of old) k → SignsNext es l s → HasSigned n (Some v) ss k
+    → plain_of new ≡ plain_of old → signs_of new ≡ ss → Added n es l v s new k
+signs_read n k es l v s old new ss w x g a b = known_signed n es l v s old new k x.label ss w x.is x.fresh x.sees x.signs g a b
+
+-- ---- the loop over the entries
+-- how far a header is that began at the sight `start`
+pub record Walking (n k limit : ℕ) (start now : Seen) (m : MapReader) (s : SeenLabels Label) (h : Header) (r : Result (Unit {0}) CoseError) : Type 0 where
+  pub ps : List (Tree × Tree)
+  pub taken : Takes start now (InMap limit m ps)
+  pub read : AreRead n k ps s h r
+
+pub begun : (n k limit : ℕ) (start now : Seen) (m : MapReader) (s : SeenLabels Label) (h : Header) (x : Unit {0}) → SeesLabels s [] → header_view h ≡ no_header → Takes start now (InMap limit m [])
+    → Walking n k limit start now m s h (Ok x)
+begun n k limit start now m s h x a q t = record { ps = []; taken = t; read = ([], refl, record { sees = sees_none s a; known = known_none n h k q }) }
+
+-- with one entry more, which is looked at, or not
+pub looked_at : {E : Type 0} (ends : E → Bool) (n k limit : ℕ) (start old now : Seen) (m m' : MapReader) (p : Value × Value) (s s' : SeenLabels Label) (h h' : Header) (r r' : Result (Unit {0}) CoseError) (w : Walking n k limit start old m s h r)
+    → NextEntry {E = E} ends limit start now m' w.ps (Ok (Some p)) → is_ok r ≡ true
+    → ((es : List (LabelFields × Tree)) → KnownIn n es s h k → MatchResult r' (λ _. Added n es (view p.0) (view p.1) s' h' k) (λ e. OrMemory (WrongEntry n es (view p.0) (view p.1) k) e))
+    → Walking n k limit start now m' s' h' r'
+looked_at ends n k limit start old now m m' p s s' h h' r r' w x o step =
+    record { ps = w.ps ++ (view p.0, view p.1) ∷ []; taken = x.more; read = more_read n k w.ps (view p.0) (view p.1) s s' h h' r r' o w.read step }
+
+pub passed_by : {E : Type 0} (ends : E → Bool) (n k limit : ℕ) (start old now : Seen) (m m' : MapReader) (p : Value × Value) (s : SeenLabels Label) (h : Header) (r : Result (Unit {0}) CoseError) (w : Walking n k limit start old m s h r)
+    → NextEntry {E = E} ends limit start now m' w.ps (Ok (Some p)) → is_ok r ≡ false → Walking n k limit start now m' s h r
+passed_by ends n k limit start old now m m' p s h r w x o =
+    record { ps = w.ps ++ (view p.0, view p.1) ∷ []; taken = x.more; read = more_passed n k w.ps (view p.0, view p.1) s h r o w.read }
+
+-- the map is whole
+pub walked : {E : Type 0} (ends : E → Bool) (n k limit : ℕ) (start old now : Seen) (m m' : MapReader) (s : SeenLabels Label) (h : Header) (r : Result (Unit {0}) CoseError) (w : Walking n k limit start old m s h r)
+    → NextEntry {E = E} ends limit start now m' w.ps (Ok None) → TakesItem {E = E} ends limit (λ x t. IsHeader n k t h x) (Ok r) start now
+walked ends n k limit start old now m m' s h r w x = record {
+  ok = takes_as start.left now.left start.offset now.offset (λ b. Reads b limit (map_tree (pairs w.ps))) (λ b. (t : Tree) × Reads b limit t × IsHeader n k t h r) x.whole
+      (λ b y. (map_tree (pairs w.ps), y, all_read n k w.ps s h r w.read));
+  err = tt;
+  stops = tt;
+  one = tt;
+}
+
+-- its bytes have a fault
+pub faulty : {E : Type 0} (ends : E → Bool) (limit : ℕ) (start now : Seen) (m : MapReader) (ps : List (Tree × Tree)) (P : Result (Unit {0}) CoseError → Tree → Type 0) (e : Error E) (r : Result (Result (Unit {0}) CoseError) (Error E))
+    → IsErrAnd r (λ x. x ≡ e) → NextEntry ends limit start now m ps (Err e) → TakesItem ends limit P r start now
+faulty ends limit start now m ps P e (Ok x) a w = absurd a
+faulty ends limit start now m ps P e (Err x) a w = record {
+  ok = tt;
+  err = subst (NamesFault ends (λ stop b f. Damage stop b limit f) start now) (sym a) w.err;
+  stops = subst (TakesSome start now) (sym a) w.stops;
+  one = subst (IfMemory (Takes start now HoldsOne)) (sym a) w.one;
+}
+
+-- ---- the header of an item that is no map
+pub other : {E : Type 0} (ends : E → Bool) (n k limit : ℕ) (old now : Seen) (v : Tree) (h : Header) (r : Result (Unit {0}) CoseError) → Takes old now (λ b. Reads b limit v) → IsHeader n k v h r
+    → TakesItem {E = E} ends limit (λ x t. IsHeader n k t h x) (Ok r) old now
+other ends n k limit old now v h r t w = record {
+  ok = takes_as old.left now.left old.offset now.offset (λ b. Reads b limit v) (λ b. (t : Tree) × Reads b limit t × IsHeader n k t h r) t (λ b y. (v, y, w));
+  err = tt;
+  stops = tt;
+  one = tt;
+}
+
+-- ---- a header in bytes
+all_of : (m : Option (List ℕ)) (b x : List ℕ) (n : ℕ) → Consumes (Some b) m x → n ≡ 0 + length x → length b ≤ n → x ≡ b
+all_of None b x n t g h = absurd t
+all_of (Some rest) b x n t g h =
+    let l : length b ≡ length x + length rest = ap length t ∙ length-append x rest in
+    let none : rest ≡ [] = length_zero rest (omega arith) in
+    sym (append-nil x) ∙ ap (λ z. x ++ z) (sym none) ∙ sym t
+
+-- bytes that were all taken
+pub all_taken : (l m : Option (List ℕ)) (b : List ℕ) (o o' n : ℕ) (P : List ℕ → Type 0) → l ≡ Some b → o ≡ 0 → Moves l m o o' P → n ≡ o' → length b ≤ n → P b
+all_taken l m b o o' n P p q t r h = subst P (all_of m b t.bytes n (subst (λ z. Consumes z m t.bytes) p t.taken) (r ∙ t.grown ∙ ap (λ z. z + length t.bytes) q) h) t.has
+
+-- the item that was taken, whatever it is as a header
+pub item_of : (n k limit : ℕ) (l m : Option (List ℕ)) (o o' : ℕ) (h : Header) (r : Result (Unit {0}) CoseError) (t : Moves l m o o' (λ b. (t : Tree) × Reads b limit t × IsHeader n k t h r)) → Moves l m o o' (λ b. Reads b limit t.has.0)
+item_of n k limit l m o o' h r t = record { bytes = t.bytes; has = t.has.1; taken = t.taken; grown = t.grown }
+
+pub inside_read : (n k : ℕ) (b : List ℕ) (h : Header) (r : Result (Unit {0}) CoseError) → b ≢ [] → (t : Tree) × Reads b n t × IsHeader n k t h r
+    → MatchResult r (λ _. Inside n (header_view h) b k) (λ e. OrMemory (WrongInside n b k) e)
+inside_read n k b h (Ok x) m w = inr (m, (w.0, w.1, w.2))
+inside_read n k b h (Err e) m w = inside_wrong n b w.0 k e m w.1 w.2
+
+-- a protected header that is put together
+pub protected_has : (n k : ℕ) (t : Tree) (b : List ℕ) (h : HeaderFields) → t ≡ bytes b → 0 < k → Inside n h b (k - 1) → HasProtected n t (protected (Some b) h) k
+protected_has n k t b h q p w = (b, q, refl, p, w)

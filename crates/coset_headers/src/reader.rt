@@ -36,7 +36,9 @@ use crate::values::is_bare;
 use ciborium::{Decoder, MapReader, MapStart, Read, Spare, de};
 use ciborium_value::{Integer, Value};
 use coset_labels::tuples::{count_structures, three};
-use coset_labels::{AsCborValue, CoseError, Label, SeenLabels, ValueTryAs, read_to_value};
+use coset_labels::{
+    AsCborValue, CoseError, Label, SeenLabels, ValueTryAs, is_short, read_to_value,
+};
 use std::alloc::Global;
 use std::mem;
 use std::vec::IntoIter;
@@ -170,10 +172,12 @@ fn fill_entry(
         (λ e. OrMemory (WrongEntry nesting es (view entry.0) (view entry.1) layers) e) }
 {
     let (key, value) = entry;
-    match read_entry(alloc, seen, key, value, into)? {
+    let signed = read_entry(alloc, seen, key, value, into)?;
+    match signed {
         None => Ok(()),
         Some(value) => {
-            into.counter_signatures = read_signatures(alloc, value, nesting, layers)?;
+            let signatures = read_signatures(alloc, value, nesting, layers)?;
+            into.counter_signatures = signatures;
             Ok(())
         }
     }
@@ -214,9 +218,10 @@ pub(crate) fn walk_header<R: Read>(
         (seen R.Read decoder.old) (seen R.Read decoder.new) }
     ensures steady { Steady R.ends result (seen R.Read decoder.old) (seen R.Read decoder.new) }
 {
-    match MapReader::begin(alloc, decoder, limit, spare)? {
-        MapStart::Map(mut entries) => {
-            walk_entries(alloc, decoder, &mut entries, nesting, layers, into, spare)
+    let start = MapReader::begin(alloc, decoder, limit, spare)?;
+    match start {
+        MapStart::Map(entries) => {
+            walk_entries(alloc, decoder, entries, nesting, layers, into, spare)
         }
         MapStart::Other(value) => Ok(fill_header(alloc, value, nesting, layers, into)),
     }
@@ -226,7 +231,7 @@ pub(crate) fn walk_header<R: Read>(
 fn walk_entries<R: Read>(
     alloc: Global,
     decoder: &mut Decoder<R>,
-    entries: &mut MapReader,
+    entries: MapReader,
     nesting: usize,
     layers: usize,
     into: &mut Header,
@@ -235,11 +240,12 @@ fn walk_entries<R: Read>(
     requires fresh { waiting_of decoder.old ≡ None }
     requires empty { header_view into.old ≡ no_header }
     ensures read { (limit : ℕ) (start : Seen)
-        → Takes start (seen R.Read decoder.old) (InMap limit entries.old [])
+        → Takes start (seen R.Read decoder.old) (InMap limit entries [])
         → TakesItem R.ends limit (λ r t. IsHeader nesting layers t into.new r) result
         start (seen R.Read decoder.new) }
     ensures steady { Steady R.ends result (seen R.Read decoder.old) (seen R.Read decoder.new) }
 {
+    let mut entries = entries;
     let mut seen = SeenLabels::new(alloc);
     let mut read = Ok(());
     'entries: while let Some(entry) = entries.next(alloc, decoder, spare)? {
@@ -250,7 +256,7 @@ fn walk_entries<R: Read>(
     Ok(read)
 }
 
-/// Reads the header in these bytes, which aren't empty, into an empty one.
+/// Reads the header in these bytes into an empty one; none is there if they are empty.
 fn walk_bytes(
     alloc: Global,
     bytes: &[u8],
@@ -258,11 +264,14 @@ fn walk_bytes(
     layers: usize,
     into: &mut Header,
 ) -> Result<(), CoseError>
-    requires some { bytes.now ≢ [] }
     requires empty { header_view into.old ≡ no_header }
     ensures { MatchResult result (λ _. Inside nesting (header_view into.new) bytes.now layers)
         (λ e. OrMemory (WrongInside nesting bytes.now layers) e) }
 {
+    if bytes.is_empty() {
+        return Ok(());
+    }
+    is_short(bytes);
     let mut decoder = Decoder::from(bytes);
     let mut spare = Spare::new(alloc);
     let read = walk_header(alloc, &mut decoder, nesting, nesting, layers, into, &mut spare)?;
@@ -614,9 +623,7 @@ pub(crate) fn fill_protected(
         (λ e. OrMemory (WrongProtected nesting (view value) layers) e) }
 {
     let bytes = protected_bytes(value, layers)?;
-    if !bytes.is_empty() {
-        walk_bytes(alloc, bytes.as_slice(), nesting, layers - 1, &mut into.header)?;
-    }
+    walk_bytes(alloc, bytes.as_slice(), nesting, layers - 1, &mut into.header)?;
     into.original_data = Some(bytes);
     Ok(())
 }
