@@ -18,6 +18,7 @@ pub mod NoMemory
 pub mod Nothing
 pub mod Outcomes
 pub mod Outputs
+pub mod Passed
 pub mod Placed
 pub mod Reach
 pub mod Rewritten
