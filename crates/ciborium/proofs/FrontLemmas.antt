@@ -138,3 +138,23 @@ four_all ends limit P ts start new x t four p = record {
   stops = tt;
   one = tt;
 }
+
+-- four items that are more
+pub four_as : {T U E : Type 0} (ends : E → Bool) (limit : ℕ) (P : T → Trees → Type 0) (Q : U → Trees → Type 0) (x : T) (y : U) (old new : Seen) → ((ts : Trees) → P x ts → Q y ts)
+    → TakesFour {E = E} ends limit P (Ok x) old new → TakesFour {E = E} ends limit Q (Ok y) old new
+four_as ends limit P Q x y old new f w = record {
+  ok = takes_as old.left new.left old.offset new.offset _ _ w.ok (λ b p. (p.0, p.1, p.2, f p.0 p.3));
+  err = tt;
+  stops = tt;
+  one = tt;
+}
+
+pub four_passed_on : {T U E : Type 0} (ends : E → Bool) (limit : ℕ) (P : T → Trees → Type 0) (Q : U → Trees → Type 0) (e : Error E) (r : Result U (Error E)) (old new : Seen) → IsErrAnd r (λ x. x ≡ e)
+    → TakesFour ends limit P (Err e) old new → TakesFour ends limit Q r old new
+four_passed_on ends limit P Q e (Ok x) old new h w = absurd h
+four_passed_on ends limit P Q e (Err x) old new h w = record {
+  ok = tt;
+  err = subst (NamesFault ends (λ stop b f. FourDamage limit stop b f) old new) (sym h) w.err;
+  stops = subst (TakesSome old new) (sym h) w.stops;
+  one = subst (IfMemory (Takes old new (FourOne limit))) (sym h) w.one;
+}

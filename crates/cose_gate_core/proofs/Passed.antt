@@ -89,7 +89,7 @@ module _ {T E : Type 0} (ends : E → Bool) (rules : ItemRules T) (n : ℕ) (sta
   pub four_passed : {X : Type 0} (P : X → Trees → Type 0) (x : X) (v : Verdict) → TakesFour ends (rules.limits.nesting - 2) P (Ok x) old new
       → ((b : List ℕ) (u : Tree) (ts : Trees) → u ≡ array ts → Reads b rules.limits.nesting (tag n u) → P x ts → WentThrough rules b (tag n u) sight sight' v) → Passes ends rules start.left new.left start.offset new.offset sight sight' (Ok v)
   four_passed P x v w f =
-      let y = (four_taken ends n rules.limits.nesting P (Ok {E = Error E} x) start old new which t w).ok in
+      let y = (four_taken {E = E} ends n rules.limits.nesting P (Ok x) start old new which t w).ok in
       let r = y.has.1 in
       let k = y.has.2 in
       let reads : Reads y.bytes rules.limits.nesting (tag n (array k.0)) = subst (Reads y.bytes rules.limits.nesting) k.1 r in
@@ -98,7 +98,7 @@ module _ {T E : Type 0} (ends : E → Bool) (rules : ItemRules T) (n : ℕ) (sta
   pub four_stopped : {X : Type 0} (P : X → Trees → Type 0) (x : X) (i : ItemFault) → TakesFour ends (rules.limits.nesting - 2) P (Ok x) old new
       → ((b : List ℕ) (u : Tree) (ts : Trees) → u ≡ array ts → Reads b rules.limits.nesting (tag n u) → P x ts → ItemFails rules b (tag n u) sight sight' i) → Passes ends rules start.left new.left start.offset new.offset sight sight' (Err (stopped_by i))
   four_stopped P x i w f =
-      let y = (four_taken ends n rules.limits.nesting P (Ok {E = Error E} x) start old new which t w).ok in
+      let y = (four_taken {E = E} ends n rules.limits.nesting P (Ok x) start old new which t w).ok in
       let k = y.has.2 in
       let reads : Reads y.bytes rules.limits.nesting (tag n (array k.0)) = subst (Reads y.bytes rules.limits.nesting) k.1 y.has.1 in
       inl (tag n (array k.0), i, refl, record { bytes = y.bytes; has = (reads, f y.bytes (array k.0) k.0 refl reads k.2); taken = y.taken; grown = y.grown })
