@@ -27,7 +27,7 @@ use Rattle.coset_headers.specs.Fields.{HeaderFields, no_header, protected, Signa
 use Rattle.coset_headers.specs.Headers.{entries, at, IsIn, HasHeader, HasProtected, HasSigned}
 use Rattle.coset_headers.specs.Parts.{plain_of, signs_of, SeesLabels, Known, KnownIn, Added, SignsNext}
 use Rattle.coset_headers.specs.View.{header_view}
-use Rattle.coset_headers.specs.Walks.{Inside, WrongInside, IsHeader}
+use Rattle.coset_headers.specs.Walks.{Inside, WrongInside, IsHeader, AreRead}
 use Rattle.coset_headers.specs.Wrong.{WrongField, wrong_alg, wrong_crit, wrong_content_type, wrong_key_id, wrong_iv, wrong_partial_iv, WrongHeader, no_map, at_entry, WrongEntry, bad_label, label_again, bad_field, two_ivs, bad_signatures, WrongSigned}
 use Rattle.coset_headers.specs.declared.header.Header.{Header}
 use Rattle.coset_headers.proofs.Alike.{header_is}
@@ -89,11 +89,6 @@ pub wrong_signed : (n k : ℕ) (v : Tree) (e : CoseError) → OrMemory (WrongHea
 wrong_signed n k v e w = passed_on (WrongHeader n (signing v) k) (WrongSigned n v k) e (wrong_alone n k v (signing v) (fault_of e) refl) w
 
 -- ---- entry by entry
--- the entries were read and gave the fields of h, or one of them has the fault
-abbrev pub AreRead : ℕ → ℕ → List (Tree × Tree) → SeenLabels Label → Header → Result (Unit {0}) CoseError → Type 0
-AreRead n k ps s h r = MatchResult r (λ _. (es : List (LabelFields × Tree)) × (entries (pairs ps) ≡ Some es) × KnownIn n es s h k)
-    (λ e. OrMemory (WrongEntries label_of (λ es l v f. WrongEntry n es l v k f) (pairs ps)) e)
-
 -- the next entry is looked at
 pub more_read : (n k : ℕ) (ps : List (Tree × Tree)) (key v : Tree) (s s' : SeenLabels Label) (h h' : Header) (r r' : Result (Unit {0}) CoseError) → is_ok r ≡ true → AreRead n k ps s h r
     → ((es : List (LabelFields × Tree)) → KnownIn n es s h k → MatchResult r' (λ _. Added n es key v s' h' k) (λ e. OrMemory (WrongEntry n es key v k) e)) → AreRead n k (ps ++ (key, v) ∷ []) s' h' r'
@@ -154,18 +149,10 @@ pub begun : (n k limit : ℕ) (start now : Seen) (m : MapReader) (s : SeenLabels
     → Walking n k limit start now m s h (Ok x)
 begun n k limit start now m s h x a q t = record { ps = []; taken = t; read = ([], refl, record { sees = sees_none s a; known = known_none n h k q }) }
 
--- with one entry more, which is looked at, or not
-pub looked_at : {E : Type 0} (ends : E → Bool) (n k limit : ℕ) (start old now : Seen) (m m' : MapReader) (p : Value × Value) (s s' : SeenLabels Label) (h h' : Header) (r r' : Result (Unit {0}) CoseError) (w : Walking n k limit start old m s h r)
-    → NextEntry {E = E} ends limit start now m' w.ps (Ok (Some p)) → is_ok r ≡ true
-    → ((es : List (LabelFields × Tree)) → KnownIn n es s h k → MatchResult r' (λ _. Added n es (view p.0) (view p.1) s' h' k) (λ e. OrMemory (WrongEntry n es (view p.0) (view p.1) k) e))
-    → Walking n k limit start now m' s' h' r'
-looked_at ends n k limit start old now m m' p s s' h h' r r' w x o step =
-    record { ps = w.ps ++ (view p.0, view p.1) ∷ []; taken = x.more; read = more_read n k w.ps (view p.0) (view p.1) s s' h h' r r' o w.read step }
-
-pub passed_by : {E : Type 0} (ends : E → Bool) (n k limit : ℕ) (start old now : Seen) (m m' : MapReader) (p : Value × Value) (s : SeenLabels Label) (h : Header) (r : Result (Unit {0}) CoseError) (w : Walking n k limit start old m s h r)
-    → NextEntry {E = E} ends limit start now m' w.ps (Ok (Some p)) → is_ok r ≡ false → Walking n k limit start now m' s h r
-passed_by ends n k limit start old now m m' p s h r w x o =
-    record { ps = w.ps ++ (view p.0, view p.1) ∷ []; taken = x.more; read = more_passed n k w.ps (view p.0, view p.1) s h r o w.read }
+-- with one entry more
+pub walked_on : {E : Type 0} (ends : E → Bool) (n k limit : ℕ) (start old now : Seen) (m m' : MapReader) (p : Value × Value) (s s' : SeenLabels Label) (h h' : Header) (r r' : Result (Unit {0}) CoseError) (w : Walking n k limit start old m s h r)
+    → NextEntry {E = E} ends limit start now m' w.ps (Ok (Some p)) → ((ps : List (Tree × Tree)) → AreRead n k ps s h r → AreRead n k (ps ++ (view p.0, view p.1) ∷ []) s' h' r') → Walking n k limit start now m' s' h' r'
+walked_on ends n k limit start old now m m' p s s' h h' r r' w x step = record { ps = w.ps ++ (view p.0, view p.1) ∷ []; taken = x.more; read = step w.ps w.read }
 
 -- the map is whole
 pub walked : {E : Type 0} (ends : E → Bool) (n k limit : ℕ) (start old now : Seen) (m m' : MapReader) (s : SeenLabels Label) (h : Header) (r : Result (Unit {0}) CoseError) (w : Walking n k limit start old m s h r)

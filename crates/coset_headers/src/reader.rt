@@ -1,8 +1,8 @@
 //! Reads headers. Values are moved into the fields of the header that is filled, and no label is
 //! copied before the 65th without a field of its own. What lies inside one another is read by a
 //! loop, so that it takes no stack.
-ghost use Rattle.std.specs.Prelude.{◌≡◌, ◌≢◌, ◌+◌, ◌*◌, ◌<◌, ◌≤◌, ℕ, List, [], MatchOption};
-ghost use Rattle.std.specs.Prelude.{MatchResult, IfOk, OnOk, IfSome, Some, None};
+ghost use Rattle.std.specs.Prelude.{◌≡◌, ◌≢◌, ◌+◌, ◌*◌, ◌<◌, ◌≤◌, ◌++◌, ℕ, List, []};
+ghost use Rattle.std.specs.Prelude.{◌∷◌, MatchOption, MatchResult, IfOk, OnOk, IfSome, Some, None};
 ghost use Rattle.std.specs.Vec.Iter.{into_iter_items};
 ghost use Rattle.ciborium.specs.Front.{Reads};
 ghost use Rattle.ciborium.specs.Fronts.{TakesItem};
@@ -25,7 +25,7 @@ ghost use Rattle.coset_headers.specs.Levels.{signing_left, work};
 ghost use Rattle.coset_headers.specs.Parts.{KnownIn, Added, SignsNext};
 ghost use Rattle.coset_headers.specs.View.{header_view, protected_view, signature_view};
 ghost use Rattle.coset_headers.specs.View.{signatures_view};
-ghost use Rattle.coset_headers.specs.Walks.{Inside, WrongInside, IsHeader};
+ghost use Rattle.coset_headers.specs.Walks.{Inside, WrongInside, IsHeader, AreRead};
 ghost use Rattle.coset_headers.specs.Weight.{weight, weight_all, weight_pairs};
 ghost use Rattle.coset_headers.specs.Wrong.{WrongHeader, WrongEntry, WrongProtected, WrongSignature};
 ghost use Rattle.coset_headers.specs.Wrong.{WrongSigned};
@@ -157,20 +157,22 @@ fn read_entry(
     Ok(None)
 }
 
-/// Reads an entry into the header, within a nesting limit and some protected layers.
+/// Reads an entry into the header, within a nesting limit and some protected layers. `read` is what
+/// reading those before it gave: after a fault no entry is looked at.
 fn fill_entry(
     alloc: Global,
     seen: &mut SeenLabels<Label>,
+    read: Result<(), CoseError>,
     entry: (Value, Value),
     nesting: usize,
     layers: usize,
     into: &mut Header,
 ) -> Result<(), CoseError>
-    ensures { (es : List (LabelFields × Tree)) → KnownIn nesting es seen.old into.old layers
-        → MatchResult result
-        (λ _. Added nesting es (view entry.0) (view entry.1) seen.new into.new layers)
-        (λ e. OrMemory (WrongEntry nesting es (view entry.0) (view entry.1) layers) e) }
+    ensures { (ps : List (Tree × Tree)) → AreRead nesting layers ps seen.old into.old read
+        → AreRead nesting layers (ps ++ (view entry.0, view entry.1) ∷ []) seen.new into.new
+        result }
 {
+    read?;
     let (key, value) = entry;
     let signed = read_entry(alloc, seen, key, value, into)?;
     match signed {
@@ -248,12 +250,15 @@ fn walk_entries<R: Read>(
     let mut entries = entries;
     let mut seen = SeenLabels::new(alloc);
     let mut read = Ok(());
-    'entries: while let Some(entry) = entries.next(alloc, decoder, spare)? {
-        if read.is_ok() {
-            read = fill_entry(alloc, &mut seen, entry, nesting, layers, into);
+    'entries: loop {
+        let next = entries.next(alloc, decoder, spare)?;
+        match next {
+            None => return Ok(read),
+            Some(entry) => {
+                read = fill_entry(alloc, &mut seen, read, entry, nesting, layers, into);
+            }
         }
     }
-    Ok(read)
 }
 
 /// Reads the header in these bytes into an empty one; none is there if they are empty.

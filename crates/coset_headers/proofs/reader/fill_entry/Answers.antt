@@ -1,26 +1,34 @@
 use Rattle.std.proofs.lemmas.Result.{err_from_is_err_and}
+use Rattle.std.proofs.Common.{refl}
 use Rattle.coset_headers.proofs.Alike.{plain_rolled, signs_rolled}
-use Rattle.coset_headers.proofs.Walked.{signs_fault, signs_read}
+use Rattle.coset_headers.proofs.Walked.{more_read, more_passed, signs_fault, signs_read}
 use Rattle.coset_headers.proofs.reader.fill_entry.Goals as goal
+
+pub returns-in_err-read : goal.returns-in_err-read
+returns-in_err-read c =
+    let p = err_from_is_err_and c.from_residual.result c.from_residual.ensures.1 in
+    rw (p.1, p.2) (λ ps w. more_passed c.args.nesting c.args.layers ps _ _ _ _ refl (rw c.in_err-read.was at w))
 
 pub returns-in_err-signed : goal.returns-in_err-signed
 returns-in_err-signed c =
-    let p = err_from_is_err_and c.from_residual.result c.from_residual.ensures.1 in
-    rw (p.1, p.2) (λ es w. c.in_err-signed.ensures.read c.args.nesting c.args.layers es w)
+    let p = err_from_is_err_and c.from_residual-in_err-signed.result c.from_residual-in_err-signed.ensures.1 in
+    rw (p.1, p.2) (λ ps w. more_read c.args.nesting c.args.layers ps _ _ _ _ _ _ _ _ refl (rw c.in_ok-read.was at w) (λ es v. c.in_err-signed.ensures.read c.args.nesting c.args.layers es v))
 
 pub returns-in-None : goal.returns-in-None
-returns-in-None c = λ es w. rw c.in-None.is at (c.in_ok-signed.ensures.read c.args.nesting c.args.layers es w)
+returns-in-None c = λ ps w. more_read c.args.nesting c.args.layers ps _ _ _ _ _ _ _ _ refl (rw c.in_ok-read.was at w)
+    (λ es v. rw c.in-None.is at (c.in_ok-signed.ensures.read c.args.nesting c.args.layers es v))
 
 pub returns-in_err-signatures : goal.returns-in_err-signatures
 returns-in_err-signatures c =
     let p = err_from_is_err_and c.from_residual-in_err-signatures.result c.from_residual-in_err-signatures.ensures.1 in
-    rw (p.1, p.2) (λ es w.
-    let x = rw c.in-Some.is at (c.in_ok-signed.ensures.read c.args.nesting c.args.layers es w) in
     let same = rw c.in-Some.is at c.in_ok-signed.ensures.same in
-    rw (same.0) at (signs_fault c.args.nesting c.args.layers es _ _ _ _ x c.in_err-signatures.ensures))
+    rw (p.1, p.2) (λ ps w. more_read c.args.nesting c.args.layers ps _ _ _ _ _ _ _ _ refl (rw c.in_ok-read.was at w) (λ es v.
+    let x = rw c.in-Some.is at (c.in_ok-signed.ensures.read c.args.nesting c.args.layers es v) in
+    rw same.0 at (signs_fault c.args.nesting c.args.layers es _ _ _ _ x c.in_err-signatures.ensures)))
 
 pub returns-in-Some : goal.returns-in-Some
-returns-in-Some c = λ es w.
-    let x = rw c.in-Some.is at (c.in_ok-signed.ensures.read c.args.nesting c.args.layers es w) in
+returns-in-Some c =
     let same = rw c.in-Some.is at c.in_ok-signed.ensures.same in
-    rw same.0 at (signs_read c.args.nesting c.args.layers es _ _ _ c.args.into.now _ _ w.known x c.in_ok-signatures.ensures (plain_rolled _) (signs_rolled _))
+    λ ps w. more_read c.args.nesting c.args.layers ps _ _ _ _ _ _ _ _ refl (rw c.in_ok-read.was at w) (λ es v.
+    let x = rw c.in-Some.is at (c.in_ok-signed.ensures.read c.args.nesting c.args.layers es v) in
+    rw same.0 at (signs_read c.args.nesting c.args.layers es _ _ _ c.args.into.now _ _ v.known x c.in_ok-signatures.ensures (plain_rolled _) (signs_rolled _)))
