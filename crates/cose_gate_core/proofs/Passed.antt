@@ -123,3 +123,11 @@ taken_of ends rules l l' p p' s s' v w = record { bytes = w.1.bytes; has = w.1.h
 pub passes_far : {T E : Type 0} (ends : E → Bool) (rules : ItemRules T) (l l' : Option (List ℕ)) (p p' : ℕ) (s s' : ItemSight T) (f : GateFault E) → Passes ends rules l l' p p' s s' (Err f) → IfTooLong (IsFar p') f
 passes_far {E = E} ends rules l l' p p' s s' f (inl (t, i, e, m)) = subst (IfTooLong (IsFar p')) (sym e) (stopped_not_long E (IsFar p') i)
 passes_far ends rules l l' p p' s s' f (inr (d, same)) = read_far ends rules.limits.nesting l l' p p' f d
+
+-- ---- an item that was taken whole
+module _ {T E : Type 0} (ends : E → Bool) (rules : ItemRules T) (l l' : Option (List ℕ)) (p p' : ℕ) (s s' : ItemSight T) (P : List ℕ → Type 0) (v : Tree) (t : Moves l l' p p' P) where
+  pub item_passed : (verdict : Verdict) → ((b : List ℕ) → P b → Reads b rules.limits.nesting v × WentThrough rules b v s s' verdict) → Passes {E = E} ends rules l l' p p' s s' (Ok verdict)
+  item_passed verdict f = (v, record { bytes = t.bytes; has = f t.bytes t.has; taken = t.taken; grown = t.grown })
+
+  pub item_stopped : (i : ItemFault) → ((b : List ℕ) → P b → Reads b rules.limits.nesting v × ItemFails rules b v s s' i) → Passes {E = E} ends rules l l' p p' s s' (Err (stopped_by i))
+  item_stopped i f = inl (v, i, refl, record { bytes = t.bytes; has = f t.bytes t.has; taken = t.taken; grown = t.grown })

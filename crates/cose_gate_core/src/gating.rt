@@ -262,6 +262,44 @@ fn pass_four<M: Four, R: Read, W: Write, J: Judge>(
     Ok(verdict)
 }
 
+/// As `pass_four`, of the message whose tag has this number.
+fn pass_numbered<R: Read, W: Write, J: Judge>(
+    alloc: Global,
+    item: ItemTerms<'_>,
+    number: u64,
+    decoder: &mut Decoder<R>,
+    out: &mut W,
+    judge: &mut J,
+    spare: &mut Spare,
+) -> Result<Verdict, GateFault<R::Error>>
+    requires fresh { waiting_of decoder.old ≡ None }
+    requires message { (number ≡ 17) ⊎ (number ≡ 18) }
+    requires lax { item.terms.strict ≡ false }
+    requires two { 2 ≤ nesting_of item.terms.limits }
+    ensures ran { (start : Seen) → Takes start (seen R.Read decoder.old)
+        (IsFront (nesting_of item.entry.terms.limits) (Four number))
+        → Passes R.ends
+        (item_rules (limits_of item.entry.terms) J.Judge judge.old item.entry.aad.now)
+        start.left (left_of R.left decoder.new) start.offset (offset_of decoder.new)
+        (item_sight W.Write J.Judge out.old judge.old)
+        (item_sight W.Write J.Judge out.new judge.new) result }
+    ensures reader { R.failed (reader_of decoder.new)
+        ≡ R.failed (reader_of decoder.old) + reader_failures R.ends result }
+    ensures writer { W.failed out.new ≡ W.failed out.old + writer_failures result }
+    ensures who { J.who judge.new ≡ J.who judge.old }
+    ensures kept { R.handle (reader_of decoder.new) ≡ R.handle (reader_of decoder.old) }
+    ensures lent { W.handle out.new ≡ W.handle out.old }
+    ensures fits { offset_of decoder.new < 2 ^ 64 }
+    ensures fresh { waiting_of decoder.new ≡ None }
+{
+    match number {
+        CoseSign1::TAG => {
+            pass_four::<CoseSign1, R, W, J>(alloc, item, decoder, out, judge, spare)
+        }
+        _ => pass_four::<CoseMac0, R, W, J>(alloc, item, decoder, out, judge, spare),
+    }
+}
+
 /// Takes the next item, asks the judge about it, and writes it if it has passed; `None` if no byte
 /// is left.
 fn pass_next<R: Read, W: Write, J: Judge>(
@@ -296,16 +334,16 @@ fn pass_next<R: Read, W: Write, J: Judge>(
     let Some((front, exact)) = next_front(alloc, item.terms, decoder, spare)? else {
         return Ok(None);
     };
-    let verdict = match front {
-        Front::Item(value) => pass(alloc, item, exact, value, out, judge)?,
-        Front::Four(CoseSign1::TAG) => {
-            pass_four::<CoseSign1, R, W, J>(alloc, item, decoder, out, judge, spare)?
+    match front {
+        Front::Item(value) => {
+            let verdict = pass(alloc, item, exact, value, out, judge)?;
+            Ok(Some(verdict))
         }
-        Front::Four(_) => {
-            pass_four::<CoseMac0, R, W, J>(alloc, item, decoder, out, judge, spare)?
+        Front::Four(number) => {
+            let verdict = pass_numbered(alloc, item, number, decoder, out, judge, spare)?;
+            Ok(Some(verdict))
         }
-    };
-    Ok(Some(verdict))
+    }
 }
 
 /// One item more.

@@ -3,10 +3,11 @@ use Rattle.ciborium_ll.specs.declared.hdr.Header.TheVariants.{Map}
 use Rattle.ciborium_ll.specs.Title.{Title}
 use Rattle.ciborium_ll.specs.Views.{seen, last_head, last_length}
 use Rattle.ciborium.specs.Damage.{level_map}
+use Rattle.ciborium.specs.declared.de.Error.TheVariants.{RecursionLimitExceeded}
 use Rattle.ciborium.proofs.ReadHeads.{map_head}
 use Rattle.ciborium.proofs.ReadLemmas.{item_title_fails, deep_fails}
 use Rattle.ciborium.proofs.Taking.{takes_as, takes_then}
-use Rattle.ciborium.proofs.Halting.{some_then, some_taken, memory_then}
+use Rattle.ciborium.proofs.Halting.{some_then, memory_then}
 use Rattle.ciborium.proofs.TurnLemmas.{item_fails}
 use Rattle.ciborium.proofs.MapLemmas.{begun}
 use Rattle.ciborium.proofs.Passing.{passed_on}
@@ -31,12 +32,9 @@ returns-then-major-ne5-clause-ok g c = takes_then _ _ _ _ _ _ _ _ _ c.in_ok-next
 pub returns-then-limit-eq0-clause-err : goal.returns-then-limit-eq0-clause-err
 returns-then-limit-eq0-clause-err g c =
     let head = map_head c.next_head.new.decoder (sym c.major.ensures ∙ c.if-major-ne5.false) in
-    item_fails g.R.Read.ends (Map (last_length c.next_head.new.decoder)) c.offset-at.result c.args.limit (seen g.R.Read c.args.decoder.now) (seen g.R.Read c.next_head.new.decoder) (seen g.R.Read c.next_head.new.decoder) _ c.offset-at.ensures
+    item_fails g.R.Read.ends (Map (last_length c.next_head.new.decoder)) c.offset-at.result c.args.limit (seen g.R.Read c.args.decoder.now) (seen g.R.Read c.next_head.new.decoder) (seen g.R.Read c.next_head.new.decoder) RecursionLimitExceeded c.offset-at.ensures
     (takes_as _ _ _ _ _ _ c.in_ok-next_head.ensures.ok (λ x p. subst (Title x) head p.0))
-    (deep_fails g.R.Read.ends _ c.args.limit _ _ _ c.if-limit-eq0.true (λ rest. level_map (last_length c.next_head.new.decoder)))
-
-pub returns-then-limit-eq0-clause-leaves : goal.returns-then-limit-eq0-clause-leaves
-returns-then-limit-eq0-clause-leaves g c = record { stops = some_taken _ tt c.in_ok-next_head.ensures.ok; one = tt; steady = search rules }
+    (deep_fails g.R.Read.ends (Map (last_length c.next_head.new.decoder)) c.args.limit c.offset-at.result _ _ c.if-limit-eq0.true (λ rest. level_map (last_length c.next_head.new.decoder)))
 
 pub returns-clause-ok : goal.returns-clause-ok
 returns-clause-ok g c =
