@@ -1,6 +1,7 @@
 -- The elements of a message that are taken one by one.
-use Rattle.std.proofs.Common.{◌≡◌, ◌≢◌, ℕ, false, inl, List, [], ◌∷◌, Option, Result, Ok, Err, refl, sym, ap, subst, ◌∙◌, option_map}
-use Rattle.std.specs.Prelude.{MatchResult}
+use Rattle.std.proofs.Common.{◌≡◌, ◌≢◌, ℕ, false, inl, List, [], ◌∷◌, Option, None, Some, Result, Ok, Err, refl, sym, ap, subst, ◌∙◌, option_map}
+use Rattle.std.specs.Global.{Vec}
+use Rattle.std.specs.Prelude.{MatchOption}
 use Rattle.ciborium_ll.specs.Reading.{Moves}
 use Rattle.ciborium_value.specs.Tree.{Tree, Trees, array, bytes, simple, is_bytes}
 use Rattle.ciborium_value.specs.View.{view, trees}
@@ -25,6 +26,11 @@ use Rattle.coset_recipients.proofs.PartsSteps.{no_bytes, whole_parts, whole_last
 -- the second of the items that were taken
 pub second_taken : (n k limit : ℕ) (l m : Option (List ℕ)) (o o' : ℕ) (h : Header) (r : Result (Unit {0}) CoseError) (t : Moves l m o o' (λ b. (t : Tree) × Reads b limit t × IsHeader n k t h r)) → Moves l m o o' (λ b. Reads b limit t.has.0)
 second_taken n k limit l m o o' h r t = record { bytes = t.bytes; has = t.has.1; taken = t.taken; grown = t.grown }
+
+-- bytes or null that were carried
+pub carried_is : (t : Tree) (o : Option (Vec ℕ)) → MatchOption o (t ≡ simple 22) (λ b. t ≡ bytes b.items) → t ≡ optional_tree (option_map (λ v. v.items) o)
+carried_is t None e = e
+carried_is t (Some b) e = e
 
 module _ (n k : ℕ) (h : Header) (x : Elements) (ts : Trees) (w : AreElements n k h x ts) where
   pub last_wrong : (e : CoseError) → (fault_of e ≡ unexpected) × (is_bytes (view x.last) ≡ false) → OrMemory (WrongWhole n (array ts) (IsNoBytes ∷ []) k) e

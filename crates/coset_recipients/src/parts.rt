@@ -166,14 +166,14 @@ impl Elements {
         alloc: Global,
         limits: Limits,
         want: &'static str,
-        protected: &mut ProtectedHeader,
+        header: &mut ProtectedHeader,
         content: &mut Option<Vec<u8>>,
     ) -> Result<Vec<u8>, CoseError>
-        requires empty { protected_view protected.old ≡ protected None no_header }
+        requires empty { protected_view header.old ≡ protected None no_header }
         ensures { (h : Header) (ts : Trees)
             → AreElements (nesting_of limits) (layers_of limits) h self ts
             → MatchResult result (λ last. HasWhole (nesting_of limits) (array ts)
-            (parts_in protected.new h content.new) ((λ d. d ≡ bytes last.items) ∷ [])
+            (parts_in header.new h content.new) ((λ d. d ≡ bytes last.items) ∷ [])
             (layers_of limits))
             (λ e. OrMemory (WrongWhole (nesting_of limits) (array ts) (IsNoBytes ∷ [])
             (layers_of limits)) e) }
@@ -181,7 +181,7 @@ impl Elements {
         let last = self.last.try_as_bytes()?;
         let carried = self.content.try_as_bytes_or_nil(want)?;
         self.unprotected?;
-        protected.fill_bstr(alloc, self.protected, limits)?;
+        header.fill_bstr(alloc, self.protected, limits)?;
         *content = carried;
         Ok(last)
     }
