@@ -167,13 +167,14 @@ impl CoseMac0 {
             self.old.unprotected elements ts
             → ReadsWithin limits HasMac0 WrongMac0 (array ts) (λ _. mac0_view self.new) result }
     {
-        self.tag = elements.fill(
+        let tag = elements.fill(
             alloc,
             limits,
             "bstr",
             &mut self.protected,
             &mut self.payload,
         )?;
+        self.tag = tag;
         Ok(())
     }
 }

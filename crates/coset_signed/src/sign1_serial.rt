@@ -167,13 +167,14 @@ impl CoseSign1 {
             self.old.unprotected elements ts
             → ReadsWithin limits HasSign1 WrongSign1 (array ts) (λ _. sign1_view self.new) result }
     {
-        self.signature = elements.fill(
+        let signature = elements.fill(
             alloc,
             limits,
             "bstr or nil",
             &mut self.protected,
             &mut self.payload,
         )?;
+        self.signature = signature;
         Ok(())
     }
 }
