@@ -78,26 +78,30 @@ fault_of_bytes ends n start new de.TooLong less w s o = (tt, w, none start.left,
     none (Some b) = tt
 
 -- ---- a message whose heads were taken
-module _ {T E : Type 0} (ends : E → Bool) (rules : ItemRules T) (n : ℕ) (start old new : Seen) (sight sight' : ItemSight T) (which : (n ≡ 17) ⊎ (n ≡ 18)) (t : Takes start old (IsFront rules.limits.nesting (front.Four n))) where
+module _ {T E : Type 0} (ends : E → Bool) (rules : ItemRules T) (n : ℕ) (start old new : Seen) (sight sight' : ItemSight T) (limit : ℕ) (same : limit ≡ rules.limits.nesting - 2) (which : (n ≡ 17) ⊎ (n ≡ 18))
+    (t : Takes start old (IsFront rules.limits.nesting (front.Four n))) where
   -- its items have a fault
-  pub four_unread : {X : Type 0} (P : X → Trees → Type 0) (e : Error E) → TakesFour ends (rules.limits.nesting - 2) P (Err e) old new → Passes ends rules start.left new.left start.offset new.offset sight sight (Err (fault_by e))
-  four_unread P e w =
+  pub four_unread : {X : Type 0} (P : X → Trees → Type 0) (e : Error E) → TakesFour ends limit P (Err e) old new → Passes ends rules start.left new.left start.offset new.offset sight sight (Err (fault_by e))
+  four_unread P e w₀ =
+      let w : TakesFour ends (rules.limits.nesting - 2) P (Err e) old new = subst (λ (z : ℕ). TakesFour ends z P (Err e) old new) same w₀ in
       let x = four_taken ends n rules.limits.nesting P (Err e) start old new which t w in
       inr (fault_of_bytes ends rules.limits.nesting start new e (let a = heads_grow n rules.limits.nesting start old t in let b = no_less old.left new.left old.offset new.offset e w.stops in omega (arith, a, b)) x.err x.stops x.one, refl)
 
   -- they were read, and it went through, or was stopped
-  pub four_passed : {X : Type 0} (P : X → Trees → Type 0) (x : X) (v : Verdict) → TakesFour ends (rules.limits.nesting - 2) P (Ok x) old new
+  pub four_passed : {X : Type 0} (P : X → Trees → Type 0) (x : X) (v : Verdict) → TakesFour {E = E} ends limit P (Ok x) old new
       → ((b : List ℕ) (u : Tree) (ts : Trees) → u ≡ array ts → Reads b rules.limits.nesting (tag n u) → P x ts → WentThrough rules b (tag n u) sight sight' v) → Passes ends rules start.left new.left start.offset new.offset sight sight' (Ok v)
-  four_passed P x v w f =
+  four_passed P x v w₀ f =
+      let w : TakesFour {E = E} ends (rules.limits.nesting - 2) P (Ok x) old new = subst (λ (z : ℕ). TakesFour {E = E} ends z P (Ok x) old new) same w₀ in
       let y = (four_taken {E = E} ends n rules.limits.nesting P (Ok x) start old new which t w).ok in
       let r = y.has.1 in
       let k = y.has.2 in
       let reads : Reads y.bytes rules.limits.nesting (tag n (array k.0)) = subst (Reads y.bytes rules.limits.nesting) k.1 r in
       (tag n (array k.0), record { bytes = y.bytes; has = (reads, f y.bytes (array k.0) k.0 refl reads k.2); taken = y.taken; grown = y.grown })
 
-  pub four_stopped : {X : Type 0} (P : X → Trees → Type 0) (x : X) (i : ItemFault) → TakesFour ends (rules.limits.nesting - 2) P (Ok x) old new
+  pub four_stopped : {X : Type 0} (P : X → Trees → Type 0) (x : X) (i : ItemFault) → TakesFour {E = E} ends limit P (Ok x) old new
       → ((b : List ℕ) (u : Tree) (ts : Trees) → u ≡ array ts → Reads b rules.limits.nesting (tag n u) → P x ts → ItemFails rules b (tag n u) sight sight' i) → Passes ends rules start.left new.left start.offset new.offset sight sight' (Err (stopped_by i))
-  four_stopped P x i w f =
+  four_stopped P x i w₀ f =
+      let w : TakesFour {E = E} ends (rules.limits.nesting - 2) P (Ok x) old new = subst (λ (z : ℕ). TakesFour {E = E} ends z P (Ok x) old new) same w₀ in
       let y = (four_taken {E = E} ends n rules.limits.nesting P (Ok x) start old new which t w).ok in
       let k = y.has.2 in
       let reads : Reads y.bytes rules.limits.nesting (tag n (array k.0)) = subst (Reads y.bytes rules.limits.nesting) k.1 y.has.1 in

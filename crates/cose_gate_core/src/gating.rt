@@ -237,7 +237,6 @@ fn pass_four<M: Four, R: Read, W: Write, J: Judge>(
 ) -> Result<Verdict, GateFault<R::Error>>
     requires fresh { waiting_of decoder.old ≡ None }
     requires lax { item.terms.strict ≡ false }
-    requires two { 2 ≤ nesting_of item.terms.limits }
     ensures ran { (start : Seen) → (number_of M.kind ≡ 17) ⊎ (number_of M.kind ≡ 18)
         → Takes start (seen R.Read decoder.old)
         (IsFront (nesting_of item.entry.terms.limits) (Four (number_of M.kind)))
@@ -256,8 +255,8 @@ fn pass_four<M: Four, R: Read, W: Write, J: Judge>(
     ensures fresh { waiting_of decoder.new ≡ None }
 {
     let mut message = M::empty(alloc);
-    let limit = item.terms.limits.nesting() - 2;
-    let read = message.walk(alloc, item.terms, limit, decoder, spare)?;
+    let nesting = item.terms.limits.nesting();
+    let read = message.walk(alloc, item.terms, nesting - 2, decoder, spare)?;
     let verdict = pass_read(item, &message, read, out, judge)?;
     Ok(verdict)
 }
@@ -275,7 +274,6 @@ fn pass_numbered<R: Read, W: Write, J: Judge>(
     requires fresh { waiting_of decoder.old ≡ None }
     requires message { (number ≡ 17) ⊎ (number ≡ 18) }
     requires lax { item.terms.strict ≡ false }
-    requires two { 2 ≤ nesting_of item.terms.limits }
     ensures ran { (start : Seen) → Takes start (seen R.Read decoder.old)
         (IsFront (nesting_of item.entry.terms.limits) (Four number))
         → Passes R.ends

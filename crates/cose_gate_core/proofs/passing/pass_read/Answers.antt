@@ -30,15 +30,15 @@ returns-in-Some-clause-ok g c = λ b u h w.
     let found = found_plain c.args.item.terms (g.M.Message.message c.args.message.now) g.M.Message.kind u b c.bar_of.result c.requires.lax read.0 read.1 h (c.bar_of.ensures (limits_of c.args.item.terms) b u read.1) in
     taken_barred _ b _ _ _ c.in-Some.refusal (rw c.in-Some.is at found)
 
-pub returns-clause-ok : goal.returns-clause-ok
-returns-clause-ok g c = λ b u h w.
+pub returns-in-None-clause-ok : goal.returns-in-None-clause-ok
+returns-in-None-clause-ok g c = λ b u h w.
     let l = limits_of c.args.item.terms in
     let read = rw c.in-Ok.is at w in
     let found = found_plain c.args.item.terms (g.M.Message.message c.args.message.now) g.M.Message.kind u b c.bar_of.result c.requires.lax read.0 read.1 h (c.bar_of.ensures l b u read.1) in
     c.pass_message.ensures.ok l b _ (rw c.in-None.is at found)
 
-pub returns-clause-err : goal.returns-clause-err
-returns-clause-err g c = λ b u h w.
+pub returns-in-None-clause-err : goal.returns-in-None-clause-err
+returns-in-None-clause-err g c = λ b u h w.
     let l = limits_of c.args.item.terms in
     let read = rw c.in-Ok.is at w in
     let found = found_plain c.args.item.terms (g.M.Message.message c.args.message.now) g.M.Message.kind u b c.bar_of.result c.requires.lax read.0 read.1 h (c.bar_of.ensures l b u read.1) in
