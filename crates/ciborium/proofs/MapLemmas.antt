@@ -199,14 +199,15 @@ module _ {E : Type 0} (ends : E → Bool) (limit : ℕ) (m m' : MapReader) (ps :
   pub at_key : (mid now : Seen) (h : Header) (at : ℕ) (K : List ℕ → Type 0) (e : Error E) → is_full m.left 0 ≡ false → IsNext m.left 0 h → at ≡ old.offset → Takes old mid (λ b. Title b h × K b)
       → NamesFaultAfterTitle ends h at (λ stop b f. Damage stop b m.limit f) mid now e → TakesSome mid now e → IfMemory (Takes mid now (OneAfterTitle h)) e → FailsIn ends limit start now e
   at_key mid now h at K e full n same u w s o =
-      let title : Takes old mid (λ b. Title b h) = takes_as old.left mid.left old.offset mid.offset _ _ u (λ x p. p.0) in
-      (key_fails ends limit m ps start.left old.left start.offset old.offset full h mid.left mid.offset now.offset e t n title
-      (subst (λ (z : ℕ). FailsAfterTitle ends h z mid.offset mid.left now.offset (λ stop b f. Damage stop b m.limit f) e) same w),
-      some_then now.left now.offset e t (some_then now.left now.offset e u s),
-      memory_then start.left old.left now.left start.offset old.offset now.offset (InMap limit m ps) (λ b. (q rest : List ℕ) × Title q h × HoldsOne b × (b ≡ q ++ rest)) HoldsOne e t
-      (λ x y p d. subst (λ (z : List ℕ). HoldsOne (x ++ z)) (sym d.4) (key_begun_one limit m ps h x d.0 d.1 full n p d.2 (subst HoldsOne d.4 d.3)))
-      (memory_then old.left mid.left now.left old.offset mid.offset now.offset (λ b. Title b h) (OneAfterTitle h) (λ b. (q rest : List ℕ) × Title q h × HoldsOne b × (b ≡ q ++ rest)) e title
-      (λ x y p d. (x, y, p, d x p, refl)) o))
+      let title : Takes old mid (λ b. Title b h) = takes_as old.left mid.left old.offset mid.offset _ _ u (λ x p. p.0) in (
+        key_fails ends limit m ps start.left old.left start.offset old.offset full h mid.left mid.offset now.offset e t n title
+            (subst (λ (z : ℕ). FailsAfterTitle ends h z mid.offset mid.left now.offset (λ stop b f. Damage stop b m.limit f) e) same w),
+        some_then now.left now.offset e t (some_then now.left now.offset e u s),
+        memory_then start.left old.left now.left start.offset old.offset now.offset (InMap limit m ps) (λ b. (q rest : List ℕ) × Title q h × HoldsOne b × (b ≡ q ++ rest)) HoldsOne e t
+            (λ x y p d. subst (λ (z : List ℕ). HoldsOne (x ++ z)) (sym d.4) (key_begun_one limit m ps h x d.0 d.1 full n p d.2 (subst HoldsOne d.4 d.3)))
+            (memory_then old.left mid.left now.left old.offset mid.offset now.offset (λ b. Title b h) (OneAfterTitle h) (λ b. (q rest : List ℕ) × Title q h × HoldsOne b × (b ≡ q ++ rest)) e title
+            (λ x y p d. (x, y, p, d x p, refl)) o),
+      )
 
   -- the bytes up to a key
   key_taken : (mid now : Seen) (h : Header) (K : List ℕ → Type 0) (k : Tree) → Takes old mid (λ b. Title b h × K b) → Takes mid now (ReadsAfterTitle h m.limit k) → Takes start now (KeyTaken limit m ps k)
@@ -218,10 +219,11 @@ module _ {E : Type 0} (ends : E → Bool) (limit : ℕ) (m m' : MapReader) (ps :
   pub at_value : (mid keyed now : Seen) (h : Header) (K : List ℕ → Type 0) (k : Tree) (e : Error E) → is_full m.left 0 ≡ false → Takes old mid (λ b. Title b h × K b) → Takes mid keyed (ReadsAfterTitle h m.limit k)
       → NamesFault ends (λ stop b f. Damage stop b m.limit f) keyed now e → TakesSome keyed now e → IfMemory (Takes keyed now HoldsOne) e → FailsIn ends limit start now e
   at_value mid keyed now h K k e full u v w s o =
-      let before = key_taken mid keyed h K k u v in
-      (value_fails ends limit m ps start.left keyed.left start.offset keyed.offset full k now.offset e before w,
-      some_then now.left now.offset e before s,
-      memory_then start.left keyed.left now.left start.offset keyed.offset now.offset (KeyTaken limit m ps k) HoldsOne HoldsOne e before (λ x y p one. value_one limit m ps k x y full p one) o)
+      let before = key_taken mid keyed h K k u v in (
+        value_fails ends limit m ps start.left keyed.left start.offset keyed.offset full k now.offset e before w,
+        some_then now.left now.offset e before s,
+        memory_then start.left keyed.left now.left start.offset keyed.offset now.offset (KeyTaken limit m ps k) HoldsOne HoldsOne e before (λ x y p one. value_one limit m ps k x y full p one) o,
+      )
 
   pub at_end : (now : Seen) → Takes old now (Closes m.left 0) → NextEntry ends limit start now m' ps (Ok None)
   at_end now u = record {

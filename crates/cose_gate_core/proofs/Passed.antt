@@ -110,7 +110,7 @@ module _ {T E : Type 0} (ends : E → Bool) (rules : ItemRules T) (n : ℕ) (sta
 -- ---- seen from the first item on
 pub answer_next : {T S E : Type 0} (rules : Rules T S) (ends : E → Bool) (old new newer : GateState T S) (passed refused : ℕ) → Reached rules old new passed refused → (f : GateFault E)
     → Passes ends (record { limits = rules.limits; decided = rules.decided; allows = rules.allows; aad = rules.aad }) new.left newer.left new.offset newer.offset
-      (record { told = new.told; written = new.written }) (record { told = newer.told; written = newer.written }) (Err f)
+    (record { told = new.told; written = new.written }) (record { told = newer.told; written = newer.written }) (Err f)
     → newer.state ≡ new.state → (new.left ≡ Some [] → f ≢ Memory) → Answers ends rules old newer (Err f)
 answer_next rules ends old new newer passed refused r f (inl (t, i, e, m)) state some =
     subst (λ z. Answers ends rules old newer (Err z)) (sym e)

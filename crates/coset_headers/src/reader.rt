@@ -279,7 +279,15 @@ fn walk_bytes(
     is_short(bytes);
     let mut decoder = Decoder::from(bytes);
     let mut spare = Spare::new(alloc);
-    let read = walk_header(alloc, &mut decoder, nesting, nesting, layers, into, &mut spare)?;
+    let read = walk_header(
+        alloc,
+        &mut decoder,
+        nesting,
+        nesting,
+        layers,
+        into,
+        &mut spare,
+    )?;
     if decoder.offset() < bytes.len() {
         return Err(CoseError::ExtraneousData);
     }
@@ -628,7 +636,13 @@ pub(crate) fn fill_protected(
         (λ e. OrMemory (WrongProtected nesting (view value) layers) e) }
 {
     let bytes = protected_bytes(value, layers)?;
-    walk_bytes(alloc, bytes.as_slice(), nesting, layers - 1, &mut into.header)?;
+    walk_bytes(
+        alloc,
+        bytes.as_slice(),
+        nesting,
+        layers - 1,
+        &mut into.header,
+    )?;
     into.original_data = Some(bytes);
     Ok(())
 }

@@ -66,7 +66,15 @@ impl Header {
             (seen R.Read decoder.old) (seen R.Read decoder.new) }
         ensures steady { Steady R.ends result (seen R.Read decoder.old) (seen R.Read decoder.new) }
     {
-        walk_header(alloc, decoder, limit, limits.nesting(), limits.layers(), self, spare)
+        walk_header(
+            alloc,
+            decoder,
+            limit,
+            limits.nesting(),
+            limits.layers(),
+            self,
+            spare,
+        )
     }
 
     /// Reads a header into this one, which has no field, within these limits. After an error it has

@@ -149,8 +149,7 @@ impl CoseSign1 {
             (seen R.Read decoder.old) (seen R.Read decoder.new) }
         ensures steady { Steady R.ends result (seen R.Read decoder.old) (seen R.Read decoder.new) }
     {
-        let elements =
-            Elements::take(alloc, decoder, limit, limits, &mut self.unprotected, spare)?;
+        let elements = Elements::take(alloc, decoder, limit, limits, &mut self.unprotected, spare)?;
         Ok(self.fill_elements(alloc, elements, limits))
     }
 

@@ -33,7 +33,12 @@ fn elements_come_one_by_one(rt: HostRuntime) {
         let value = value.expect(&rt, "an element");
         match element {
             "map" => holds(&rt, value.is_map(), "a map"),
-            _ => same(&rt, &value, &Value::Bytes(of_hex(&rt, rt.alloc(), element)), "bytes"),
+            _ => same(
+                &rt,
+                &value,
+                &Value::Bytes(of_hex(&rt, rt.alloc(), element)),
+                "bytes",
+            ),
         }
     }
     let second = read_front(rt.alloc(), &mut decoder, RECURSION_LIMIT, &mut spare);
