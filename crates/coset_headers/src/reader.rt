@@ -120,8 +120,10 @@ impl Open {
             (λ value. open_left self.new + weight (view value) < open_left self.old)) }
     {
         'entries: while let Some((key, value)) = self.entries.next() {
-            if let Some(value) = read_entry(alloc, &mut self.seen, key, value, into)? {
-                return Ok(Some(value));
+            let signed = read_entry(alloc, &mut self.seen, key, value, into)?;
+            match signed {
+                Some(value) => return Ok(Some(value)),
+                None => {}
             }
         }
         Ok(None)
