@@ -5,7 +5,7 @@ use Rattle.std.specs.Io.KnownBytes.{Consumes}
 use Rattle.ciborium_ll.specs.Reading.{Moves}
 use Rattle.ciborium_ll.specs.Seen.{Seen, Takes}
 use Rattle.ciborium_value.specs.Tree.{Tree, bytes, integer, map as map_tree, Pairs, no_pairs, pair_more}
-use Rattle.ciborium_value.specs.View.{view, pairs}
+use Rattle.ciborium_value.specs.View.{view, pairs, view_pairs}
 use Rattle.ciborium_value.specs.declared.value.Value.{Value}
 use Rattle.ciborium_value.specs.Kinds.{is_map}
 use Rattle.ciborium.specs.Damage.{Damage}
@@ -51,6 +51,9 @@ has_signed n k v h w =
     let f : Some ((number (pos 7), v) ∷ []) ≡ Some u.1 = ap entries e ∙ u.3 in
     let g : (number (pos 7), v) ∷ [] ≡ u.1 = cc in
     subst (λ z. HasSigned n z (signs_of h) k) (ap (at 7) (sym g)) u.6
+
+pub signing_is : (es : List (Value × Value)) (k v : Value) → es ≡ (k, v) ∷ [] → view k ≡ integer (pos 7) → map_tree (view_pairs es) ≡ signing (view v)
+signing_is es k v e q = ap (λ z. map_tree (view_pairs z)) e ∙ ap (λ z. map_tree (pair_more z (view v) no_pairs)) q
 
 no_field : (v : Tree) (m : LabelFields) (e : CoseFault) → m ≡ number (pos 7) → WrongField v m e → ⊥
 no_field v _ _ q (wrong_alg e x) = cc

@@ -1,5 +1,5 @@
 use Rattle.std.proofs.lemmas.Result.{err_from_is_err_and}
-use Rattle.std.proofs.Common.{sym, ◌∙◌, subst}
+use Rattle.std.proofs.Common.{◌-◌, sym, subst}
 use Rattle.coset_labels.specs.Faults.{OrMemory}
 use Rattle.coset_headers.specs.Headers.{HasProtected}
 use Rattle.coset_headers.specs.View.{header_view}

@@ -7,7 +7,7 @@ use Rattle.coset_headers.proofs.Walked.{all_taken, item_of, inside_read}
 use Rattle.coset_headers.proofs.reader.walk_bytes.Goals as goal
 
 pub returns-then-is_empty : goal.returns-then-is_empty
-returns-then-is_empty c = inl (empty_by c.args.bytes.now _ c.is_empty.ensures c.if-is_empty.true, c.requires)
+returns-then-is_empty c = inl (empty_by c.args.bytes.now _ c.is_empty.ensures c.if-is_empty.true, c.requires.empty)
 
 pub returns-in_err-read : goal.returns-in_err-read
 returns-in_err-read c =

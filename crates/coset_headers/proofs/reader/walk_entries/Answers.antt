@@ -15,7 +15,7 @@ pub entries-preserved : goal.entries-preserved
 entries-preserved g c = record {
   going = λ limit start t.
       let w = c.entries.invariant.going limit start t in
-      walked_on g.R.Read.ends _ _ limit start (seen g.R.Read c.entries.decoder) (seen g.R.Read c.next.new.decoder) _ _ _ _ _ _ _ _ _ w (rw c.in-Some.is at (c.in_ok-next.ensures.read limit start w.ps w.taken)) c.fill_entry.ensures;
+      walked_on g.R.Read.ends _ _ limit start (seen g.R.Read c.entries.decoder) (seen g.R.Read c.next.new.decoder) _ _ _ _ _ _ _ _ _ w (rw c.in-Some.is at (c.in_ok-next.ensures.read limit start w.ps w.taken)) c.fill_entry-read.ensures;
   failed = search rules;
   kept = search rules;
   fresh = search rules;
