@@ -78,7 +78,7 @@ fault_of_bytes ends n start new de.TooLong less w s o = (tt, w, none start.left,
     none (Some b) = tt
 
 -- ---- a message whose heads were taken
-module _ {T E : Type 0} (ends : E → Bool) (rules : ItemRules T) (n : ℕ) (start old new : Seen) (sight sight' : ItemSight T) (limit : ℕ) (same : limit ≡ rules.limits.nesting - 2) (which : (n ≡ 17) ⊎ (n ≡ 18))
+module _ {T E : Type 0} (ends : E → Bool) (rules : ItemRules T) (n : ℕ) (start old new : Seen) (sight : ItemSight T) (limit : ℕ) (same : limit ≡ rules.limits.nesting - 2) (which : (n ≡ 17) ⊎ (n ≡ 18))
     (t : Takes start old (IsFront rules.limits.nesting (front.Four n))) where
   -- its items have a fault
   pub four_unread : {X : Type 0} (P : X → Trees → Type 0) (e : Error E) → TakesFour ends limit P (Err e) old new → Passes ends rules start.left new.left start.offset new.offset sight sight (Err (fault_by e))
@@ -87,6 +87,8 @@ module _ {T E : Type 0} (ends : E → Bool) (rules : ItemRules T) (n : ℕ) (sta
       let x = four_taken ends n rules.limits.nesting P (Err e) start old new which t w in
       inr (fault_of_bytes ends rules.limits.nesting start new e (let a = heads_grow n rules.limits.nesting start old t in let b = no_less old.left new.left old.offset new.offset e w.stops in omega (arith, a, b)) x.err x.stops x.one, refl)
 
+module _ {T E : Type 0} (ends : E → Bool) (rules : ItemRules T) (n : ℕ) (start old new : Seen) (sight sight' : ItemSight T) (limit : ℕ) (same : limit ≡ rules.limits.nesting - 2) (which : (n ≡ 17) ⊎ (n ≡ 18))
+    (t : Takes start old (IsFront rules.limits.nesting (front.Four n))) where
   -- they were read, and it went through, or was stopped
   pub four_passed : {X : Type 0} (P : X → Trees → Type 0) (x : X) (v : Verdict) → TakesFour {E = E} ends limit P (Ok x) old new
       → ((b : List ℕ) (u : Tree) (ts : Trees) → u ≡ array ts → Reads b rules.limits.nesting (tag n u) → P x ts → WentThrough rules b (tag n u) sight sight' v) → Passes ends rules start.left new.left start.offset new.offset sight sight' (Ok v)
@@ -135,3 +137,7 @@ module _ {T E : Type 0} (ends : E → Bool) (rules : ItemRules T) (l l' : Option
 
   pub item_stopped : (i : ItemFault) → ((b : List ℕ) → P b → Reads b rules.limits.nesting v × ItemFails rules b v s s' i) → Passes {E = E} ends rules l l' p p' s s' (Err (stopped_by i))
   item_stopped i f = inl (v, i, refl, record { bytes = t.bytes; has = f t.bytes t.has; taken = t.taken; grown = t.grown })
+
+pub seventeen : (n : ℕ) → (n ≡ 17) ⊎ (n ≡ 18) → n ≢ 18 → n ≡ 17
+seventeen n (inl e) not = e
+seventeen n (inr e) not = absurd (not e)

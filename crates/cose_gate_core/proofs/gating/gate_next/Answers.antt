@@ -16,30 +16,30 @@ pub returns-in_err-verdict-clause-far : goal.returns-in_err-verdict-clause-far
 returns-in_err-verdict-clause-far g c = rw (err_is _ _ c.from_residual.ensures.1) (passes_far g.R.Read.ends _ _ _ _ _ _ _ _ c.in_err-verdict.ensures.ran)
 
 pub counted-counts-requires : goal.counted-counts-requires
-counted-counts-requires g c = let grows = item_grows _ _ _ _ _ _ (taken_of _ _ _ _ _ _ _ _ _ (rw c.in-Some.is at c.in_ok-verdict.ensures.ran)) in omega arith
+counted-counts-requires g c = let grows = item_grows _ _ _ _ _ _ (taken_of g.R.Read.ends _ _ _ _ _ _ _ _ (rw c.in-Some.is at c.in_ok-verdict.ensures.ran)) in omega arith
 
 pub entry_of-requires : goal.entry_of-requires
-entry_of-requires g c = let grows = item_grows _ _ _ _ _ _ (taken_of _ _ _ _ _ _ _ _ _ (rw c.in-Some.is at c.in_ok-verdict.ensures.ran)) in omega arith
+entry_of-requires g c = let grows = item_grows _ _ _ _ _ _ (taken_of g.R.Read.ends _ _ _ _ _ _ _ _ (rw c.in-Some.is at c.in_ok-verdict.ensures.ran)) in omega arith
 
 pub returns-in_err-note-clause-ran : goal.returns-in_err-note-clause-ran
 returns-in_err-note-clause-ran g c =
     let passes = rw c.in-Some.is at c.in_ok-verdict.ensures.ran in
     rw (err_is _ _ c.from_residual-in_err-note.ensures.1) (λ first come.
-    answer_noting _ g.R.Read.ends _ _ _ _ _ come _ (taken_of _ _ _ _ _ _ _ _ _ passes) _ passes.1.has.1 c.in_err-note.ensures.err)
+    answer_noting _ g.R.Read.ends _ _ _ _ _ come _ (taken_of g.R.Read.ends _ _ _ _ _ _ _ _ passes) _ passes.1.has.1 c.in_err-note.ensures.err)
 
 pub returns-in_err-note-clause-nothing : goal.returns-in_err-note-clause-nothing
 returns-in_err-note-clause-nothing g c = λ none same small.
-    absurd (nothing_read _ _ _ _ _ _ none (taken_of _ _ _ _ _ _ _ _ _ (rw c.in-Some.is at c.in_ok-verdict.ensures.ran)))
+    absurd (nothing_read _ _ _ _ _ _ none (taken_of g.R.Read.ends _ _ _ _ _ _ _ _ (rw c.in-Some.is at c.in_ok-verdict.ensures.ran)))
 
 pub returns-in_err-note-clause-no_memory_of_nothing : goal.returns-in_err-note-clause-no_memory_of_nothing
 returns-in_err-note-clause-no_memory_of_nothing g c = λ none same.
-    absurd (nothing_read _ _ _ _ _ _ none (taken_of _ _ _ _ _ _ _ _ _ (rw c.in-Some.is at c.in_ok-verdict.ensures.ran)))
+    absurd (nothing_read _ _ _ _ _ _ none (taken_of g.R.Read.ends _ _ _ _ _ _ _ _ (rw c.in-Some.is at c.in_ok-verdict.ensures.ran)))
 
 pub returns-clause-ran : goal.returns-clause-ran
 returns-clause-ran g c =
     let passes = rw c.in-Some.is at c.in_ok-verdict.ensures.ran in
-    λ first come. reached_step _ _ _ _ _ _ _ _ come _ (taken_of _ _ _ _ _ _ _ _ _ passes) _ passes.1.has.1 _
+    λ first come. reached_step _ _ _ _ _ _ _ _ come _ (taken_of g.R.Read.ends _ _ _ _ _ _ _ _ passes) _ passes.1.has.1 _
     (c.entry_of.ensures ∙ same_entry _ _ _ _ _ c.counted-counts.ensures.one c.offset-offset.ensures) c.in_ok-note.ensures.ok c.counted-counts.ensures.passed c.counted-counts.ensures.refused
 
 pub returns-clause-more : goal.returns-clause-more
-returns-clause-more g c = (item_grows _ _ _ _ _ _ (taken_of _ _ _ _ _ _ _ _ _ (rw c.in-Some.is at c.in_ok-verdict.ensures.ran)), c.counted-counts.ensures.one)
+returns-clause-more g c = (item_grows _ _ _ _ _ _ (taken_of g.R.Read.ends _ _ _ _ _ _ _ _ (rw c.in-Some.is at c.in_ok-verdict.ensures.ran)), c.counted-counts.ensures.one)

@@ -7,7 +7,7 @@ use Rattle.cose_gate_core.proofs.gating.pass_four.Goals as goal
 
 pub returns-in_err-read-clause-ran : goal.returns-in_err-read-clause-ran
 returns-in_err-read-clause-ran g c =
-    rw (err_is _ _ c.from_residual.ensures.1) (λ start which t. four_unread g.R.Read.ends _ _ start (seen g.R.Read c.args.decoder.now) (seen g.R.Read c.walk.new.decoder) _ _ _ (ap (λ z. z - 2) c.nesting-nesting.ensures.chosen) which t _ _ c.in_err-read.ensures.read)
+    rw (err_is _ _ c.from_residual.ensures.1) (λ start which t. four_unread g.R.Read.ends _ _ start (seen g.R.Read c.args.decoder.now) (seen g.R.Read c.walk.new.decoder) _ _ (ap (λ z. z - 2) c.nesting-nesting.ensures.chosen) which t _ _ c.in_err-read.ensures.read)
 
 pub pass_read-requires-clause-read : goal.pass_read-requires-clause-read
 pass_read-requires-clause-read g c = (array c.in_ok-read.ensures.read.ok.has.0, c.in_ok-read.ensures.read.ok.has.3)
