@@ -1,5 +1,5 @@
 use Rattle.std.proofs.Common.{refl, inr}
-use Rattle.ciborium_ll.specs.Views.{seen, left_of, offset_of}
+use Rattle.ciborium_ll.specs.Views.{seen}
 use Rattle.ciborium_value.specs.View.{view}
 use Rattle.cose_gate_core.specs.Terms.{IsTaken}
 use Rattle.cose_gate_core.proofs.InOrder.{err_is}
@@ -9,13 +9,24 @@ use Rattle.cose_gate_core.proofs.gating.pass_next.Goals as goal
 pub returns-in_err-front-clause-ran : goal.returns-in_err-front-clause-ran
 returns-in_err-front-clause-ran g c = rw (err_is _ _ c.from_residual.ensures.1) (inr (c.in_err-front.ensures.err, refl))
 
-pub returns-in_err-verdict-clause-ran : goal.returns-in_err-verdict-clause-ran
-returns-in_err-verdict-clause-ran g c =
+pub returns-in_err-verdict-in-Item-clause-ran : goal.returns-in_err-verdict-in-Item-clause-ran
+returns-in_err-verdict-in-Item-clause-ran g c =
     let taken = rw c.in-Item.is at (rw c.in-Some.is at c.in_ok-front.ensures.next) in
-    rw (err_is _ _ c.from_residual-in_err-verdict.ensures.1)
-    (item_stopped g.R.Read.ends _ _ _ _ _ _ _ (λ b. IsTaken c.args.item.terms b (view c.in-Item.value) c.in-Some.exact) (view c.in-Item.value) taken _ (λ b h. (h.0, c.in_err-verdict.ensures.err b h)))
+    rw (err_is _ _ c.from_residual-in_err-verdict-in-Item.ensures.1)
+    (item_stopped g.R.Read.ends _ _ _ _ _ _ _ (λ b. IsTaken c.args.item.terms b (view c.in-Item.value) c.in-Some.exact) (view c.in-Item.value) taken _ (λ b h. (h.0, c.in_err-verdict-in-Item.ensures.err b h)))
 
-pub returns-in-Item-clause-ran : goal.returns-in-Item-clause-ran
-returns-in-Item-clause-ran g c =
+pub returns-in_ok-verdict-in-Item-clause-ran : goal.returns-in_ok-verdict-in-Item-clause-ran
+returns-in_ok-verdict-in-Item-clause-ran g c =
     let taken = rw c.in-Item.is at (rw c.in-Some.is at c.in_ok-front.ensures.next) in
-    item_passed g.R.Read.ends _ _ _ _ _ _ _ (λ b. IsTaken c.args.item.terms b (view c.in-Item.value) c.in-Some.exact) (view c.in-Item.value) taken _ (λ b h. (h.0, c.in_ok-verdict.ensures.ok b h))
+    item_passed g.R.Read.ends _ _ _ _ _ _ _ (λ b. IsTaken c.args.item.terms b (view c.in-Item.value) c.in-Some.exact) (view c.in-Item.value) taken _ (λ b h. (h.0, c.in_ok-verdict-in-Item.ensures.ok b h))
+
+pub returns-in_err-verdict-in-Four-clause-ran : goal.returns-in_err-verdict-in-Four-clause-ran
+returns-in_err-verdict-in-Four-clause-ran g c =
+    let taken = rw c.in-Four.is at (rw c.in-Some.is at c.in_ok-front.ensures.next) in
+    rw (err_is _ _ c.from_residual-in_err-verdict-in-Four.ensures.1)
+    (c.in_err-verdict-in-Four.ensures.ran (seen g.R.Read c.args.decoder.now) (record { bytes = taken.bytes; has = taken.has.1; taken = taken.taken; grown = taken.grown }))
+
+pub returns-in_ok-verdict-in-Four-clause-ran : goal.returns-in_ok-verdict-in-Four-clause-ran
+returns-in_ok-verdict-in-Four-clause-ran g c =
+    let taken = rw c.in-Four.is at (rw c.in-Some.is at c.in_ok-front.ensures.next) in
+    c.in_ok-verdict-in-Four.ensures.ran (seen g.R.Read c.args.decoder.now) (record { bytes = taken.bytes; has = taken.has.1; taken = taken.taken; grown = taken.grown })
