@@ -33,4 +33,4 @@ returns-in_ok-signatures-in-Some c =
     let same = rw c.in-Some.is at c.in_ok-signed.ensures.same in
     λ ps w. more_read c.args.nesting c.args.layers ps (view c.args.entry.0) (view c.args.entry.1) c.args.seen.now c.read_entry.new.seen c.args.into.now _ c.args.read (Ok tt) (ap is_ok c.in_ok-read.was) w (λ es v.
     let x = rw c.in-Some.is at (c.in_ok-signed.ensures.read c.args.nesting c.args.layers es v) in
-    rw same.0 at (signs_read c.args.nesting c.args.layers es (view c.args.entry.0) _ _ c.args.into.now _ _ v.known x c.in_ok-signatures-in-Some.ensures (plain_rolled _) (signs_rolled _)))
+    signs_read c.args.nesting c.args.layers es (view c.args.entry.0) (view c.args.entry.1) _ c.read_entry.new.into _ _ (rw (← same.1) at v.known) x (rw same.0 at c.in_ok-signatures-in-Some.ensures) (plain_rolled _) (signs_rolled _))

@@ -17,11 +17,11 @@ returns-in_err-signed-clause-read c =
     (entry_wrong n t c.entries.self c.entries.into (c.in-Some.key, c.in-Some.value) _ _ g c.in-Some.ensures.items (c.in_err-signed.ensures.read n c.entries.self.layers g.es g.known)))
 
 -- counter signatures: their label is read
-pub returns-in-Some-2-clause-read : goal.returns-in-Some-2-clause-read
-returns-in-Some-2-clause-read c = λ n t r.
+pub returns-in-Some-signed-clause-read : goal.returns-in-Some-signed-clause-read
+returns-in-Some-signed-clause-read c = λ n t r.
     let g = c.entries.invariant.going n t r in
-    let x = rw c.in-Some-2.is at (c.in_ok-signed.ensures.read n c.entries.self.layers g.es g.known) in
-    let same = rw c.in-Some-2.is at c.in_ok-signed.ensures.same in
+    let x = rw c.in-Some-signed.is at (c.in_ok-signed.ensures.read n c.entries.self.layers g.es g.known) in
+    let same = rw c.in-Some-signed.is at c.in_ok-signed.ensures.same in
     rw (same.0, same.1) (signs_next n t c.entries.self _ c.entries.into (c.in-Some.key, c.in-Some.value) _ x.label g c.in-Some.ensures.items refl refl x.is x.signs x.fresh x.sees)
 
 pub entries-preserved : goal.entries-preserved
