@@ -1,13 +1,8 @@
 use Rattle.std.proofs.lemmas.Result.{err_from_is_err_and}
-use Rattle.std.proofs.Common.{◌-◌, sym, subst}
-use Rattle.ciborium_value.specs.View.{view}
+use Rattle.std.proofs.Common.{◌-◌, subst}
 use Rattle.coset_labels.specs.Faults.{OrMemory}
-use Rattle.coset_headers.specs.Headers.{HasProtected}
-use Rattle.coset_headers.specs.View.{header_view}
-use Rattle.coset_headers.specs.Walks.{Inside, WrongInside}
-use Rattle.coset_headers.proofs.Alike.{protected_of}
+use Rattle.coset_headers.specs.Walks.{WrongInside}
 use Rattle.coset_headers.proofs.Steps.{prot_inside}
-use Rattle.coset_headers.proofs.Walked.{protected_has}
 use Rattle.coset_headers.proofs.reader.fill_protected.Goals as goal
 
 pub returns-in_err-bytes : goal.returns-in_err-bytes
@@ -20,9 +15,3 @@ returns-in_err-walk_bytes c =
     let p = err_from_is_err_and c.from_residual-in_err-walk_bytes.result c.from_residual-in_err-walk_bytes.ensures.1 in
     let o = c.in_ok-bytes.ensures in
     rw (p.1, p.2) (prot_inside _ _ c.in_ok-bytes.bytes.items _ _ o.0 o.1 (subst (λ z. OrMemory (WrongInside c.args.nesting z (c.args.layers - 1)) c.in_err-walk_bytes.field-0.0) c.as_slice.ensures.value c.in_err-walk_bytes.ensures))
-
-pub returns : goal.returns
-returns c =
-    let o = c.in_ok-bytes.ensures in
-    subst (λ z. HasProtected c.args.nesting (view c.args.value) z c.args.layers) (sym (protected_of _))
-    (protected_has c.args.nesting c.args.layers (view c.args.value) c.in_ok-bytes.bytes.items (header_view c.walk_bytes.new.into) o.0 o.1 (subst (λ z. Inside c.args.nesting (header_view c.walk_bytes.new.into) z (c.args.layers - 1)) c.as_slice.ensures.value c.in_ok-walk_bytes.ensures))
