@@ -22,6 +22,7 @@ pub mod ExactTurns
 pub mod ToldLemmas
 pub mod FrameLemmas
 pub mod FrontLemmas
+pub mod MapLemmas
 pub mod BeginLemmas
 pub mod TurnLemmas
 pub mod FillLemmas

@@ -22,6 +22,9 @@ bytes_head d e = rw e refl
 pub text_head : {R : Type 0} (d : Decoder R) → last_major d ≡ 3 → last_head d ≡ Text (last_length d)
 text_head d e = rw e refl
 
+pub map_head : {R : Type 0} (d : Decoder R) → last_major d ≡ 5 → last_head d ≡ Map (last_length d)
+map_head d e = rw e refl
+
 -- what holds of each header that can be the one of a major type
 by_major : (P : Header → Type 0) (m info n : ℕ) → ((n : ℕ) → P (Positive n)) → ((n : ℕ) → P (Negative n)) → (m ≡ 2 → (o : Option ℕ) → P (Bytes o)) → (m ≡ 3 → (o : Option ℕ) → P (Text o))
     → (m ≡ 4 → (o : Option ℕ) → P (Array o)) → (m ≡ 5 → (o : Option ℕ) → P (Map o)) → (m ≡ 6 → P (Tag n)) → ((f : Float) → P (all.Float f)) → P Break → ((n : ℕ) → P (Simple n)) → P (header_by m info n)

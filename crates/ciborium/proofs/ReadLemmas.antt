@@ -139,7 +139,7 @@ map_snoc f (y ∷ ys) x = ap (λ z. f y ∷ z) (map_snoc f ys x)
 pub pushed : {V : Type 0} (f : V → Tree) (vs ws : List V) (v : V) → ws ≡ vs ++ v ∷ [] → snoc (trees (map f vs)) (f v) ≡ trees (map f ws)
 pushed f vs ws v e = sym (ap (λ z. trees (map f z)) e ∙ ap trees (map_snoc f vs v) ∙ views_more (map f vs) (f v))
 
-flat_more : (ps : List (Tree × Tree)) (p : Tree × Tree) → flat (pairs (ps ++ p ∷ [])) ≡ snoc (snoc (flat (pairs ps)) p.0) p.1
+pub flat_more : (ps : List (Tree × Tree)) (p : Tree × Tree) → flat (pairs (ps ++ p ∷ [])) ≡ snoc (snoc (flat (pairs ps)) p.0) p.1
 flat_more [] p = refl
 flat_more (q ∷ qs) p = ap (λ z. one_more q.0 (one_more q.1 z)) (flat_more qs p)
 

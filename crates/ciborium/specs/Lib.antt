@@ -10,6 +10,7 @@ pub mod Fronts
 pub mod Held
 pub mod Items
 pub mod Levels
+pub mod Maps
 pub mod Meaning
 pub mod Reading
 pub mod Spelling

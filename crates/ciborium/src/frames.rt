@@ -27,7 +27,7 @@ ghost use Rattle.ciborium.specs.Frames.{AskFails, Opening, BeginsItem, BeginFail
 ghost use Rattle.ciborium.specs.Frames.{Holds, in_hand, rank, room_of, HalfIn};
 ghost use Rattle.ciborium.specs.Frames.{FillEnds, FillGives, FillHolds};
 ghost use Rattle.ciborium.specs.Front.{Reads, HoldsOne};
-ghost use Rattle.ciborium.specs.Fronts.{front_view, IsFour, IsMessage, FourDamage, FourOne};
+ghost use Rattle.ciborium.specs.Fronts.{IsFront, IsTagged, IsMessage};
 
 use crate::de::Error;
 use crate::exactness::Exactness;
@@ -757,13 +757,13 @@ pub fn read_item<R: Read>(
 pub enum Front {
     /// An item.
     Item(Value),
-    /// A tag of this number over an array of four items.
-    Four(u64, Value, Value, Value, Value),
+    /// The heads of a tag of this number and of an array of four items, which are yet to come.
+    Four(u64),
 }
 
 /// The item of the head that was read, which begins at the place `at`.
 #[inline(always)]
-fn read_headed<R: Read>(
+pub fn read_headed<R: Read>(
     alloc: Global,
     decoder: &mut Decoder<R>,
     at: usize,
@@ -784,9 +784,12 @@ fn read_headed<R: Read>(
     read_item(alloc, decoder, header, at, limit, &mut exact, spare)
 }
 
-/// The next item.
+/// The next item, which opens at most `limit` levels. No header may wait.
+///
+/// # Errors
+/// As those of `from_decoder`.
 #[inline(always)]
-fn read_next<R: Read>(
+pub fn read_next<R: Read>(
     alloc: Global,
     decoder: &mut Decoder<R>,
     limit: usize,
@@ -808,31 +811,6 @@ fn read_next<R: Read>(
         return Ok(Value::Bytes(bytes));
     }
     read_headed(alloc, decoder, at, limit, spare)
-}
-
-/// The next four items, which an array under a tag of this number holds.
-fn read_four<R: Read>(
-    alloc: Global,
-    decoder: &mut Decoder<R>,
-    n: u64,
-    limit: usize,
-    spare: &mut Spare,
-) -> Result<Front, Error<R::Error>>
-    requires fresh { waiting_of decoder.old ≡ None }
-    requires message { (n ≡ 17) ⊎ (n ≡ 18) }
-    ensures ok { IfOk result (λ f. Takes (seen R.Read decoder.old) (seen R.Read decoder.new)
-        (IsFour n limit (front_view f))) }
-    ensures message { IfOk result IsMessage }
-    ensures err { IfErr result (NamesFault R.ends (λ stop b f. FourDamage limit stop b f)
-        (seen R.Read decoder.old) (seen R.Read decoder.new)) }
-    ensures leaves { Leaves R.ends (FourOne limit) result
-        (seen R.Read decoder.old) (seen R.Read decoder.new) }
-{
-    let first = read_next(alloc, decoder, limit, spare)?;
-    let second = read_next(alloc, decoder, limit, spare)?;
-    let third = read_next(alloc, decoder, limit, spare)?;
-    let fourth = read_next(alloc, decoder, limit, spare)?;
-    Ok(Front::Four(n, first, second, third, fourth))
 }
 
 /// Whether the head that was read is that of an array of the definite length four.
@@ -875,7 +853,7 @@ fn read_tagged<R: Read>(
     requires two { 2 ≤ limit }
     requires message { (n ≡ 17) ⊎ (n ≡ 18) }
     ensures ok { IfOk result (λ f. Takes (seen R.Read decoder.old) (seen R.Read decoder.new)
-        (ReadsAfterTitle (Tag n) limit (front_view f))) }
+        (IsTagged n limit f)) }
     ensures message { IfOk result IsMessage }
     ensures err { IfErr result (NamesFault R.ends (TagDamage n limit)
         (seen R.Read decoder.old) (seen R.Read decoder.new)) }
@@ -885,7 +863,7 @@ fn read_tagged<R: Read>(
     let at = decoder.offset();
     next_head(decoder)?;
     if is_four(decoder) {
-        return read_four(alloc, decoder, n, limit - 2, spare);
+        return Ok(Front::Four(n));
     }
     let content = read_headed(alloc, decoder, at, limit - 1, spare)?;
     let mut exact = Exactness { holds: false };
@@ -893,9 +871,9 @@ fn read_tagged<R: Read>(
     Ok(Front::Item(whole))
 }
 
-/// As `from_decoder`, if no header waits, but a tag 17 or 18 over an array of the definite length
-/// four may be given as its four elements. Reading is a loop, but dropping, copying and comparing a
-/// value recurse over its levels: the stack has to bear the limit.
+/// As `from_decoder`, if no header waits, but of a tag 17 or 18 over an array of the definite length
+/// four only these two heads may be taken: the four items are next then. Reading is a loop, but
+/// dropping, copying and comparing a value recurse over its levels: the stack has to bear the limit.
 ///
 /// # Errors
 /// As those of `from_decoder`, whose limit this is.
@@ -907,7 +885,7 @@ pub fn read_front<R: Read>(
 ) -> Result<Front, Error<R::Error>>
     requires fresh { waiting_of decoder.old ≡ None }
     ensures ok { IfOk result (λ f. Takes (seen R.Read decoder.old) (seen R.Read decoder.new)
-        (λ b. Reads b limit (front_view f))) }
+        (IsFront limit f)) }
     ensures message { IfOk result IsMessage }
     ensures err { IfErr result (NamesFault R.ends (λ stop b f. Damage stop b limit f)
         (seen R.Read decoder.old) (seen R.Read decoder.new)) }

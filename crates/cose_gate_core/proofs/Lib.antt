@@ -19,6 +19,7 @@ pub mod Nothing
 pub mod OfNothing
 pub mod Outcomes
 pub mod Outputs
+pub mod Passed
 pub mod Placed
 pub mod RanWhole
 pub mod Reach

@@ -143,16 +143,20 @@ end_behind ends P Q (Some a) (Some r) b de.RecursionLimitExceeded c f k = tt
 end_behind ends P Q (Some a) (Some r) b de.Memory c f k = tt
 end_behind ends P Q (Some a) (Some r) b de.TooLong c f k = tt
 
--- no item is read of nothing
-pub nothing_read : (k : ℕ) (l₁ l₂ : Option (List ℕ)) (p₁ p₂ : ℕ) (v : Tree) → l₁ ≡ Some [] → Moves l₁ l₂ p₁ p₂ (λ (b : List ℕ). Reads b k v) → ⊥
-nothing_read k l₁ l₂ p₁ p₂ v e t = go l₂ (subst (λ (l : Option (List ℕ)). Consumes l l₂ t.bytes) e t.taken)
+-- nothing is taken of nothing
+pub nothing_taken : (P : List ℕ → Type 0) → ((b : List ℕ) → P b → 0 < length b) → (l₁ l₂ : Option (List ℕ)) (p₁ p₂ : ℕ) → l₁ ≡ Some [] → Moves l₁ l₂ p₁ p₂ P → ⊥
+nothing_taken P some l₁ l₂ p₁ p₂ e t = go l₂ (subst (λ (l : Option (List ℕ)). Consumes l l₂ t.bytes) e t.taken)
   where
     go : (l : Option (List ℕ)) → Consumes (Some []) l t.bytes → ⊥
     go None c = c
     go (Some xs) c =
         let s : 0 ≡ length t.bytes + length xs = ap length c ∙ length-append t.bytes xs in
-        let some = reads_some k t.bytes v t.has in
+        let more = some t.bytes t.has in
         omega arith
+
+-- no item is read of nothing
+pub nothing_read : (k : ℕ) (l₁ l₂ : Option (List ℕ)) (p₁ p₂ : ℕ) (v : Tree) → l₁ ≡ Some [] → Moves l₁ l₂ p₁ p₂ (λ (b : List ℕ). Reads b k v) → ⊥
+nothing_read k l₁ l₂ p₁ p₂ v e t = nothing_taken (λ (b : List ℕ). Reads b k v) (λ b h. reads_some k b v h) l₁ l₂ p₁ p₂ e t
 
 -- of bytes that are known
 known : (P Q : List ℕ → Type 0) (l : Option (List ℕ)) → ((b : List ℕ) → P b → Q b) → IfKnown l P → IfKnown l Q
@@ -211,10 +215,10 @@ flushed (Some a) (Some b) None x q p = absurd q
 flushed (Some a) (Some b) (Some c) x q p = q ∙ p
 
 -- what an item goes by, and what is seen of it
-abbrev item_rules_of : {T S : Type 0} → Rules T S → ItemRules T
+abbrev pub item_rules_of : {T S : Type 0} → Rules T S → ItemRules T
 item_rules_of rules = record { limits = rules.limits; decided = rules.decided; allows = rules.allows; aad = rules.aad }
 
-abbrev item_sight_of : {T S : Type 0} → GateState T S → ItemSight T
+abbrev pub item_sight_of : {T S : Type 0} → GateState T S → ItemSight T
 item_sight_of sight = record { told = sight.told; written = sight.written }
 
 module _ {T S : Type 0} (rules : Rules T S) where
@@ -495,11 +499,6 @@ nothing_answer ends p p' f failed failed' (inr (x, is, e)) not told same =
 pub if_ok : {A E : Type 0} {P Q : A → Type 0} (r : Result A E) → ((x : A) → P x → Q x) → IfOk r P → IfOk r Q
 if_ok (Ok x) f p = f x p
 if_ok (Err e) f p = p
-
--- an item that was taken was read
-abbrev pub read_of : (terms : Terms) (l l' : Option (List ℕ)) (p p' : ℕ) (v : Tree) (exact : Bool) → Moves l l' p p' (λ (b : List ℕ). IsTaken terms b v exact)
-    → Moves l l' p p' (λ (b : List ℕ). Reads b (nesting_of terms.limits) v)
-read_of terms l l' p p' v exact t = record { bytes = t.bytes; has = t.has.0; taken = t.taken; grown = t.grown }
 
 -- offsets grow too long only near what they can be
 pub read_far : {E : Type 0} (ends : E → Bool) (n : ℕ) (l l' : Option (List ℕ)) (at at' : ℕ) (f : GateFault E) → IsReadFault ends n l l' at at' f → IfTooLong (IsFar at') f

@@ -1,9 +1,9 @@
 -- How far the gate has come, and what one item more makes of that.
-use Rattle.std.specs.Prelude.{◌≡◌, ℕ, ◌+◌, ◌<◌, List, [], length, map, Option, Some, None, Bool, Result, Ok, Err}
+use Rattle.std.specs.Prelude.{◌≡◌, ℕ, ◌+◌, ◌<◌, ◌⊎◌, List, [], length, map, Option, Some, None, Bool, Result, Ok, Err}
 use Rattle.std.specs.Io.KnownBytes.{Appends}
 use Rattle.ciborium_ll.specs.Reading.{Moves}
-use Rattle.ciborium.specs.Front.{HoldsOne}
-use Rattle.ciborium.specs.Fronts.{front_view}
+use Rattle.ciborium_value.specs.Tree.{Tree}
+use Rattle.ciborium.specs.Front.{Reads, HoldsOne}
 use Rattle.ciborium.specs.declared.frames.Front.{Front}
 use Rattle.ciborium.specs.Items.{SequenceWithin}
 use Rattle.ciborium.specs.Reading.{IfKnown, IfEnd, IsNoMemory, SomeTaken}
@@ -11,8 +11,11 @@ use Rattle.cose_gate_core.specs.Asked.{folded_over}
 use Rattle.cose_gate_core.specs.GateRun.{Ran}
 use Rattle.cose_gate_core.specs.Misshapen.{NamesShapes}
 use Rattle.cose_gate_core.specs.Outcome.{Rules, GateState, IsFaultOf}
-use Rattle.cose_gate_core.specs.Terms.{IsTaken}
+use Rattle.cose_gate_core.specs.Passing.{ItemRules, ItemSight, WentThrough, ItemFails, stopped_by}
+use Rattle.cose_gate_core.specs.Terms.{IsTakenFront}
 use Rattle.cose_gate_core.specs.Run.{Step, Steps, questions_of, output_of, entries_of, passed_count, refused_count}
+use Rattle.cose_gate_core.specs.declared.passing.ItemFault.{ItemFault}
+use Rattle.cose_gate_core.specs.declared.report.Verdict.{Verdict}
 use Rattle.cose_gate_core.specs.declared.terms.Terms.{Terms}
 use Rattle.cose_gate_core.specs.declared.gating.Counts.{Counts}
 use Rattle.cose_gate_core.specs.declared.gating.GateFault.{GateFault}
@@ -43,8 +46,7 @@ pub record Reached {T S : Type 0} (rules : Rules T S) (old new : GateState T S)
 abbrev pub IsNext : Terms → Option (List ℕ) → Option (List ℕ) → ℕ → ℕ → Option (Front × Bool)
     → Type 0
 IsNext terms left left' at at' None = IfKnown left (λ b. (b ≡ []) × (left' ≡ Some [])) × (at' ≡ at)
-IsNext terms left left' at at' (Some r) =
-    Moves left left' at at' (λ b. IsTaken terms b (front_view r.0) r.1)
+IsNext terms left left' at at' (Some r) = Moves left left' at at' (IsTakenFront terms r.0 r.1)
 
 -- what reading the next item ends with, at the offset at' then: a fault of the bytes that were to
 -- come, if they are known, or being out of memory. Some of these bytes were taken, or none, but
@@ -58,6 +60,25 @@ IsReadFault ends n left left' at at' (Decode e) =
     × SomeTaken left left' at at' e
 IsReadFault ends n left left' at at' Write = ⊥
 IsReadFault ends n left left' at at' Memory = Moves left left' at at' HoldsOne
+
+-- What became of the next item before it is noted. It was taken and went through, or stopped; or it
+-- was not, and nothing was told or written.
+abbrev pub Passes : {T E : Type 0} → (E → Bool) → ItemRules T → Option (List ℕ) → Option (List ℕ) → ℕ → ℕ
+    → ItemSight T → ItemSight T → Result Verdict (GateFault E) → Type 0
+Passes ends rules left left' at at' old new (Ok v) =
+    (t : Tree) × Moves left left' at at' (λ b. Reads b rules.limits.nesting t × WentThrough rules b t old new v)
+Passes ends rules left left' at at' old new (Err f) =
+    ((t : Tree) × (i : ItemFault) × (f ≡ stopped_by i)
+    × Moves left left' at at' (λ b. Reads b rules.limits.nesting t × ItemFails rules b t old new i))
+    ⊎ (IsReadFault ends rules.limits.nesting left left' at at' f × (new ≡ old))
+
+-- the same, or no byte was left
+abbrev pub PassesNext : {T E : Type 0} → (E → Bool) → ItemRules T → Option (List ℕ) → Option (List ℕ) → ℕ → ℕ
+    → ItemSight T → ItemSight T → Result (Option Verdict) (GateFault E) → Type 0
+PassesNext ends rules left left' at at' old new (Ok (Some v)) = Passes ends rules left left' at at' old new (Ok v)
+PassesNext ends rules left left' at at' old new (Ok None) =
+    IfKnown left (λ b. (b ≡ []) × (left' ≡ Some [])) × (at' ≡ at) × (new ≡ old)
+PassesNext ends rules left left' at at' old new (Err f) = Passes ends rules left left' at at' old new (Err f)
 
 -- what became of the next item, seen from the first one on, if so many were counted before it
 abbrev pub NextSince : {T S E : Type 0} → (E → Bool) → Bool → Rules T S → Counts

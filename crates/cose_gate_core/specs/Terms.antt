@@ -1,8 +1,10 @@
 -- What a gate goes by.
-use Rattle.std.specs.Prelude.{◌≡◌, ◌⊎◌, ⊤, ℕ, List, Bool, true, false, MatchBool}
+use Rattle.std.specs.Prelude.{◌≡◌, ℕ, List, Bool, true, false, MatchBool}
 use Rattle.ciborium_value.specs.Tree.{Tree}
+use Rattle.ciborium_value.specs.View.{view}
 use Rattle.ciborium_value.specs.Encoding.{enc}
 use Rattle.ciborium.specs.Front.{Reads}
+use Rattle.ciborium.specs.Fronts.{IsFront}
 use Rattle.ciborium.specs.declared.frames.Front.{Front}
 use Rattle.ciborium.specs.declared.frames.Front.TheVariants as front
 use Rattle.coset_labels.specs.Limits.{nesting_of, layers_of}
@@ -24,7 +26,7 @@ IsTaken terms b t exact =
     Reads b (nesting_of terms.limits) t
     × (terms.strict ≡ true → MatchBool exact (b ≡ enc t) (b ≡ enc t → ⊥))
 
--- only a gate that isn't strict takes the four elements of a message alone
-abbrev pub IsFrontFor : Terms → Front → Type 0
-IsFrontFor terms (front.Item v) = ⊤
-IsFrontFor terms (front.Four n a b c d) = (terms.strict ≡ false) × ((n ≡ 17) ⊎ (n ≡ 18))
+-- the same of what stands at the front; only a gate that isn't strict takes the heads of a message
+abbrev pub IsTakenFront : Terms → Front → Bool → List ℕ → Type 0
+IsTakenFront terms (front.Item v) exact b = IsTaken terms b (view v) exact
+IsTakenFront terms (front.Four n) exact b = (terms.strict ≡ false) × IsFront (nesting_of terms.limits) (front.Four n) b

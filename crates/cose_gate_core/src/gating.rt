@@ -1,33 +1,40 @@
 //! The gate.
 ghost use Rattle.std.specs.Prelude.{◌≡◌, ◌≢◌, ◌+◌, ◌<◌, ◌^◌, [], Some, None, Ok, Err};
-ghost use Rattle.std.specs.Prelude.{◌≤◌, IfOk, IfErr, IfSome, OnOk, true, not, if◌then◌else◌};
+ghost use Rattle.std.specs.Prelude.{◌≤◌, ◌⊎◌, IfOk, IfErr, IfSome, OnOk, true, false, not};
+ghost use Rattle.std.specs.Prelude.{if◌then◌else◌};
 ghost use Rattle.std.specs.Io.KnownBytes.{Keeps};
 ghost use Rattle.ciborium.specs.Damage.{Damage};
 ghost use Rattle.ciborium.specs.Front.{HoldsOne};
-ghost use Rattle.ciborium.specs.Fronts.{front_view};
+ghost use Rattle.ciborium.specs.Fronts.{IsFront, IsMessage};
+ghost use Rattle.ciborium.specs.declared.frames.Front.TheVariants.{Four};
 ghost use Rattle.ciborium.specs.Reading.{NamesFault, Steady, TakesSome, IsNoMemory, IfEnd};
 ghost use Rattle.ciborium.specs.Reading.{IfMemory, IsFar};
-ghost use Rattle.ciborium_ll.specs.Seen.{Takes};
+ghost use Rattle.ciborium_ll.specs.Seen.{Seen, Takes};
 ghost use Rattle.ciborium_ll.specs.Views.{left_of, offset_of, waiting_of, reader_of, seen};
 ghost use Rattle.ciborium_value.specs.View.{view};
 ghost use Rattle.coset_labels.specs.Limits.{nesting_of};
-ghost use Rattle.cose_gate_core.specs.Calls.{rules_by, sight_of};
+ghost use Rattle.cose_gate_core.specs.Calls.{rules_by, sight_of, item_rules, item_sight};
 ghost use Rattle.cose_gate_core.specs.GateRun.{Ran};
-ghost use Rattle.cose_gate_core.specs.Next.{IsNext, IsReadFault, GoesOn};
+ghost use Rattle.cose_gate_core.specs.Next.{IsNext, IsReadFault, Passes, PassesNext, GoesOn};
 ghost use Rattle.cose_gate_core.specs.Outcome.{IfTooLong, reader_failures, writer_failures};
 ghost use Rattle.cose_gate_core.specs.Passing.{at_end};
 ghost use Rattle.cose_gate_core.specs.ReasonNames.{fault_name};
 ghost use Rattle.cose_gate_core.specs.Run.{has_passed};
-ghost use Rattle.cose_gate_core.specs.Terms.{limits_of, IsTaken, IsFrontFor};
+ghost use Rattle.cose_gate_core.specs.Questions.{number_of};
+ghost use Rattle.cose_gate_core.specs.Terms.{limits_of, IsTaken, IsTakenFront};
 ghost use Rattle.cose_gate_core.specs.declared.gating.GateFault.TheVariants.{Write, Memory};
 
 use crate::judge::Judge;
-use crate::passing::{ItemFault, pass_front};
+use crate::message::Four;
+use crate::passing::{ItemFault, pass, pass_read};
 use crate::report::{Entry, Report, Verdict};
 use crate::terms::Terms;
 use crate::whole::is_whole;
 use ciborium::{Front, Spare, Value, de, read_front};
 use ciborium_ll::{Decoder, Read, Write};
+use coset_labels::TaggedCborSerializable;
+use coset_maced::CoseMac0;
+use coset_signed::CoseSign1;
 use std::alloc::{AllocError, Global};
 use std::fmt;
 
@@ -155,7 +162,7 @@ fn read_item<R: Read>(
     de::from_decoder_by(alloc, decoder, nesting, terms.strict)
 }
 
-/// As `read_item`, but a gate that isn't strict may get the four elements of a message alone.
+/// As `read_item`, but a gate that isn't strict may get the heads of a message alone.
 fn front_of<R: Read>(
     alloc: Global,
     terms: Terms,
@@ -164,8 +171,8 @@ fn front_of<R: Read>(
 ) -> Result<(Front, bool), de::Error<R::Error>>
     requires { terms.strict ≡ true → waiting_of decoder.old ≡ None }
     ensures ok { IfOk result (λ r. Takes (seen R.Read decoder.old) (seen R.Read decoder.new)
-        (λ b. IsTaken terms b (front_view r.0) r.1)) }
-    ensures fit { IfOk result (λ r. IsFrontFor terms r.0) }
+        (IsTakenFront terms r.0 r.1)) }
+    ensures message { IfOk result (λ r. IsMessage r.0) }
     ensures err { IfErr result (NamesFault R.ends
         (λ stop b f. Damage stop b (nesting_of terms.limits) f)
         (seen R.Read decoder.old) (seen R.Read decoder.new)) }
@@ -187,7 +194,7 @@ fn front_of<R: Read>(
     Ok((front, false))
 }
 
-/// The next item, or `None` if no byte is left.
+/// The next item or the heads of the next message, or `None` if no byte is left.
 fn next_front<R: Read>(
     alloc: Global,
     terms: Terms,
@@ -198,7 +205,7 @@ fn next_front<R: Read>(
     ensures next { IfOk result (IsNext terms
         (left_of R.left decoder.old) (left_of R.left decoder.new)
         (offset_of decoder.old) (offset_of decoder.new)) }
-    ensures fit { IfOk result (λ next. IfSome next (λ f. IsFrontFor terms f.0)) }
+    ensures message { IfOk result (λ next. IfSome next (λ f. IsMessage f.0)) }
     ensures err { IfErr result (IsReadFault R.ends (nesting_of terms.limits)
         (left_of R.left decoder.old) (left_of R.left decoder.new)
         (offset_of decoder.old) (offset_of decoder.new)) }
@@ -218,6 +225,124 @@ fn next_front<R: Read>(
         Ok(front) => Ok(Some(front)),
         Err(error) if is_end::<R>(&error) && decoder.offset() == offset => Ok(None),
         Err(error) => Err(GateFault::from(error)),
+    }
+}
+
+/// Reads a message of which the heads were taken, asks the judge about it, and writes it if it has
+/// passed. The gate isn't strict.
+fn pass_four<M: Four, R: Read, W: Write, J: Judge>(
+    alloc: Global,
+    item: ItemTerms<'_>,
+    decoder: &mut Decoder<R>,
+    out: &mut W,
+    judge: &mut J,
+    spare: &mut Spare,
+) -> Result<Verdict, GateFault<R::Error>>
+    requires fresh { waiting_of decoder.old ≡ None }
+    requires lax { item.terms.strict ≡ false }
+    ensures ran { (start : Seen) → (number_of M.kind ≡ 17) ⊎ (number_of M.kind ≡ 18)
+        → Takes start (seen R.Read decoder.old)
+        (IsFront (nesting_of item.entry.terms.limits) (Four (number_of M.kind)))
+        → Passes R.ends
+        (item_rules (limits_of item.entry.terms) J.Judge judge.old item.entry.aad.now)
+        start.left (left_of R.left decoder.new) start.offset (offset_of decoder.new)
+        (item_sight W.Write J.Judge out.old judge.old)
+        (item_sight W.Write J.Judge out.new judge.new) result }
+    ensures reader { R.failed (reader_of decoder.new)
+        ≡ R.failed (reader_of decoder.old) + reader_failures R.ends result }
+    ensures writer { W.failed out.new ≡ W.failed out.old + writer_failures result }
+    ensures who { J.who judge.new ≡ J.who judge.old }
+    ensures kept { R.handle (reader_of decoder.new) ≡ R.handle (reader_of decoder.old) }
+    ensures lent { W.handle out.new ≡ W.handle out.old }
+    ensures fits { offset_of decoder.new < 2 ^ 64 }
+    ensures fresh { waiting_of decoder.new ≡ None }
+{
+    let mut message = M::empty(alloc);
+    let nesting = item.terms.limits.nesting();
+    let read = message.walk(alloc, item.terms, nesting - 2, decoder, spare)?;
+    let verdict = pass_read(item, &message, read, out, judge)?;
+    Ok(verdict)
+}
+
+/// As `pass_four`, of the message whose tag has this number.
+fn pass_numbered<R: Read, W: Write, J: Judge>(
+    alloc: Global,
+    item: ItemTerms<'_>,
+    number: u64,
+    decoder: &mut Decoder<R>,
+    out: &mut W,
+    judge: &mut J,
+    spare: &mut Spare,
+) -> Result<Verdict, GateFault<R::Error>>
+    requires fresh { waiting_of decoder.old ≡ None }
+    requires message { (number ≡ 17) ⊎ (number ≡ 18) }
+    requires lax { item.terms.strict ≡ false }
+    ensures ran { (start : Seen) → Takes start (seen R.Read decoder.old)
+        (IsFront (nesting_of item.entry.terms.limits) (Four number))
+        → Passes R.ends
+        (item_rules (limits_of item.entry.terms) J.Judge judge.old item.entry.aad.now)
+        start.left (left_of R.left decoder.new) start.offset (offset_of decoder.new)
+        (item_sight W.Write J.Judge out.old judge.old)
+        (item_sight W.Write J.Judge out.new judge.new) result }
+    ensures reader { R.failed (reader_of decoder.new)
+        ≡ R.failed (reader_of decoder.old) + reader_failures R.ends result }
+    ensures writer { W.failed out.new ≡ W.failed out.old + writer_failures result }
+    ensures who { J.who judge.new ≡ J.who judge.old }
+    ensures kept { R.handle (reader_of decoder.new) ≡ R.handle (reader_of decoder.old) }
+    ensures lent { W.handle out.new ≡ W.handle out.old }
+    ensures fits { offset_of decoder.new < 2 ^ 64 }
+    ensures fresh { waiting_of decoder.new ≡ None }
+{
+    if number == CoseSign1::TAG {
+        pass_four::<CoseSign1, R, W, J>(alloc, item, decoder, out, judge, spare)
+    } else {
+        pass_four::<CoseMac0, R, W, J>(alloc, item, decoder, out, judge, spare)
+    }
+}
+
+/// Takes the next item, asks the judge about it, and writes it if it has passed; `None` if no byte
+/// is left.
+fn pass_next<R: Read, W: Write, J: Judge>(
+    alloc: Global,
+    item: ItemTerms<'_>,
+    decoder: &mut Decoder<R>,
+    out: &mut W,
+    judge: &mut J,
+    spare: &mut Spare,
+) -> Result<Option<Verdict>, GateFault<R::Error>>
+    requires fresh { item.terms.strict ≡ true → waiting_of decoder.old ≡ None }
+    ensures ran { PassesNext R.ends
+        (item_rules (limits_of item.entry.terms) J.Judge judge.old item.entry.aad.now)
+        (left_of R.left decoder.old) (left_of R.left decoder.new)
+        (offset_of decoder.old) (offset_of decoder.new)
+        (item_sight W.Write J.Judge out.old judge.old)
+        (item_sight W.Write J.Judge out.new judge.new) result }
+    ensures nothing { left_of R.left decoder.old ≡ Some []
+        → R.failed (reader_of decoder.new) ≡ R.failed (reader_of decoder.old)
+        → offset_of decoder.old + 4096 < 2 ^ 64 → result ≡ Ok None }
+    ensures no_memory_of_nothing { left_of R.left decoder.old ≡ Some []
+        → result ≢ Err Memory }
+    ensures reader { R.failed (reader_of decoder.new)
+        ≡ R.failed (reader_of decoder.old) + reader_failures R.ends result }
+    ensures writer { W.failed out.new ≡ W.failed out.old + writer_failures result }
+    ensures who { J.who judge.new ≡ J.who judge.old }
+    ensures kept { R.handle (reader_of decoder.new) ≡ R.handle (reader_of decoder.old) }
+    ensures lent { W.handle out.new ≡ W.handle out.old }
+    ensures fits { offset_of decoder.new < 2 ^ 64 }
+    ensures fresh { waiting_of decoder.new ≡ None }
+{
+    let Some((front, exact)) = next_front(alloc, item.terms, decoder, spare)? else {
+        return Ok(None);
+    };
+    match front {
+        Front::Item(value) => {
+            let verdict = pass(alloc, item, exact, value, out, judge)?;
+            Ok(Some(verdict))
+        }
+        Front::Four(number) => {
+            let verdict = pass_numbered(alloc, item, number, decoder, out, judge, spare)?;
+            Ok(Some(verdict))
+        }
     }
 }
 
@@ -305,10 +430,9 @@ pub fn gate_next<R: Read, W: Write, P: Report, J: Judge>(
     ensures fresh { waiting_of decoder.new ≡ None }
 {
     let offset = decoder.offset();
-    let Some((front, exact)) = next_front(alloc, item.terms, decoder, spare)? else {
+    let Some(verdict) = pass_next(alloc, item, decoder, out, judge, spare)? else {
         return Ok(None);
     };
-    let verdict = pass_front(alloc, item, exact, front, out, judge)?;
     let counts = counted(item.counts, verdict);
     report.note(&entry_of(counts, offset, verdict))?;
     Ok(Some(counts))

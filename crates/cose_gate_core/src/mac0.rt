@@ -8,12 +8,12 @@ use crate::asking::ask_alone;
 use crate::judge::Judge;
 use crate::message::{Four, Message};
 use crate::terms::Terms;
-use ciborium::Value;
 use ciborium::ser::Sink;
+use ciborium::{Spare, Value, de};
+use ciborium_ll::{Decoder, Read};
 use coset_base::MacContext;
 use coset_labels::{AsWritten, CoseError};
 use coset_maced::{CoseMac0, put_tagged_mac0};
-use coset_recipients::PartValues;
 use std::alloc::{AllocError, Global};
 
 impl Message for CoseMac0 {
@@ -62,13 +62,14 @@ impl Message for CoseMac0 {
 }
 
 impl Four for CoseMac0 {
-    fn read_four(
+    fn walk<R: Read>(
         &mut self,
         alloc: Global,
         terms: Terms,
-        parts: PartValues,
-        last: Value,
-    ) -> Result<(), CoseError> {
-        self.fill_four(alloc, parts, last, terms.limits)
+        limit: usize,
+        decoder: &mut Decoder<R>,
+        spare: &mut Spare,
+    ) -> Result<Result<(), CoseError>, de::Error<R::Error>> {
+        CoseMac0::walk(self, alloc, decoder, limit, terms.limits, spare)
     }
 }

@@ -1,14 +1,16 @@
 //! Messages of the kinds that are judged.
 ghost use Rattle.std.specs.Prelude.{◌≡◌, true, Some, None, MatchBool, MatchResult, IfOk};
 ghost use Rattle.std.specs.Prelude.{OnOk, OnErr};
+ghost use Rattle.ciborium.specs.Fronts.{TakesFour};
+ghost use Rattle.ciborium.specs.Reading.{Steady};
+ghost use Rattle.ciborium_ll.specs.Views.{seen, waiting_of};
 ghost use Rattle.ciborium_traits.specs.Events.{events, Puts, Stops};
+ghost use Rattle.ciborium_value.specs.Tree.{array};
 ghost use Rattle.ciborium_value.specs.View.{view};
 ghost use Rattle.coset_labels.specs.Faults.{OrMemory};
-ghost use Rattle.coset_recipients.specs.PartsView.{four_of};
 ghost use Rattle.cose_gate_core.specs.Asked.{asked, first_no, folded_over, ToldPart};
-ghost use Rattle.cose_gate_core.specs.Findings.{Bounds, HasMessage, IsCarried};
-ghost use Rattle.cose_gate_core.specs.Misshapen.{WrongMessage};
-ghost use Rattle.cose_gate_core.specs.Findings.{IsUnsigned};
+ghost use Rattle.cose_gate_core.specs.Findings.{Bounds, HasMessage, IsCarried, IsUnsigned};
+ghost use Rattle.cose_gate_core.specs.Misshapen.{WrongMessage, IsReadAs};
 ghost use Rattle.cose_gate_core.specs.Put.{tagged_put, is_as_received};
 ghost use Rattle.cose_gate_core.specs.Questions.{MessageFields, kind_of, payload_of, questions};
 ghost use Rattle.cose_gate_core.specs.Questions.{message_tree};
@@ -18,10 +20,10 @@ ghost use Rattle.cose_gate_core.specs.declared.about.MessageKind.{MessageKind};
 
 use crate::judge::Judge;
 use crate::terms::Terms;
-use ciborium::Value;
 use ciborium::ser::Sink;
+use ciborium::{Spare, Value, de};
+use ciborium_ll::{Decoder, Read};
 use coset_labels::CoseError;
-use coset_recipients::PartValues;
 use std::alloc::{AllocError, Global};
 
 /// A message of a kind that is judged (RFC 9052, section 2).
@@ -98,20 +100,23 @@ pub trait Message: Drop + Sized {
 
 /// A message whose content is an array of four elements.
 pub trait Four: Message {
-    /// As `read`, of the array of these parts and the last element, into one that has no field.
+    /// Reads the next four items as these elements into a message that has no field. Each opens at
+    /// most `limit` levels.
     ///
     /// # Errors
-    /// Those of `read`.
-    fn read_four(
+    /// Outside those of reading the items, and inside those of `read`: the items were taken then.
+    fn walk<R: Read>(
         &mut self,
         alloc: Global,
         terms: Terms,
-        parts: PartValues,
-        last: Value,
-    ) -> Result<(), CoseError>
-        requires { Self.message self.old ≡ Self.nothing }
-        ensures { MatchResult result
-            (λ _. (kind_of (Self.message self.new) ≡ Self.kind)
-            × HasMessage (limits_of terms) (four_of parts last) (Self.message self.new))
-            (λ e. OrMemory (WrongMessage (limits_of terms) Self.kind (four_of parts last)) e) };
+        limit: usize,
+        decoder: &mut Decoder<R>,
+        spare: &mut Spare,
+    ) -> Result<Result<(), CoseError>, de::Error<R::Error>>
+        requires fresh { waiting_of decoder.old ≡ None }
+        requires empty { Self.message self.old ≡ Self.nothing }
+        ensures read { TakesFour R.ends limit
+            (λ r ts. IsReadAs (limits_of terms) Self.kind (Self.message self.new) (array ts) r)
+            result (seen R.Read decoder.old) (seen R.Read decoder.new) }
+        ensures steady { Steady R.ends result (seen R.Read decoder.old) (seen R.Read decoder.new) };
 }

@@ -3,36 +3,34 @@ ghost use Rattle.std.specs.Prelude.{◌≡◌, ◌≢◌, ℕ, ◌+◌, List, tr
 ghost use Rattle.std.specs.Prelude.{MatchBool, MatchOption, IfOk, IfErr, OnOk, OnErr};
 ghost use Rattle.std.specs.Io.KnownBytes.{Appends};
 ghost use Rattle.ciborium.specs.Front.{Reads};
-ghost use Rattle.ciborium.specs.Fronts.{front_view};
 ghost use Rattle.ciborium_value.specs.Encoding.{Fits, enc};
 ghost use Rattle.ciborium_value.specs.Tree.{Tree, tag};
 ghost use Rattle.ciborium_value.specs.View.{view};
 ghost use Rattle.cose_iana.specs.Tags.{cbor_tags};
 ghost use Rattle.coset_labels.specs.Limits.{nesting_of};
 ghost use Rattle.coset_labels.specs.declared.error.CoseError.TheVariants.{Memory};
-ghost use Rattle.coset_recipients.specs.PartsView.{four_of};
 ghost use Rattle.cose_gate_core.specs.Calls.{item_rules, item_sight};
-ghost use Rattle.cose_gate_core.specs.Findings.{Bounds, judged, HasMessage, IsEncryptedTag, Finds};
+ghost use Rattle.cose_gate_core.specs.Findings.{Bounds, judged, HasMessage, IsReadAs, IsEncryptedTag};
+ghost use Rattle.cose_gate_core.specs.Findings.{Finds};
 ghost use Rattle.cose_gate_core.specs.Passing.{IsRefused, IsTold, WentThrough, ItemFails};
 ghost use Rattle.cose_gate_core.specs.Passing.{IsWriteFault, item_failures};
 ghost use Rattle.cose_gate_core.specs.Put.{tagged_put, is_as_received};
 ghost use Rattle.cose_gate_core.specs.Questions.{number_of, tag_of, message_tree};
 ghost use Rattle.cose_gate_core.specs.Received.{IsReceivedMessage};
-ghost use Rattle.cose_gate_core.specs.Terms.{limits_of, IsTaken, IsFrontFor};
+ghost use Rattle.cose_gate_core.specs.Terms.{limits_of, IsTaken};
 ghost use Rattle.cose_gate_core.specs.declared.report.Refusal.TheVariants.{Shape};
 
 use crate::gating::ItemTerms;
 use crate::judge::Judge;
-use crate::message::{Four, Message};
+use crate::message::Message;
 use crate::report::{Refusal, Verdict};
 use crate::writing::Written;
-use ciborium::{Front, Value, into_writer};
+use ciborium::{Value, into_writer};
 use ciborium_ll::Write;
 use ciborium_value::laws::value_fits;
 use cose_iana::{CborTag, EnumI64};
 use coset_labels::{CoseError, TaggedCborSerializable};
 use coset_maced::{CoseMac, CoseMac0};
-use coset_recipients::PartValues;
 use coset_signed::{CoseSign, CoseSign1};
 use std::alloc::{AllocError, Global};
 
@@ -203,43 +201,44 @@ fn pass_as<M: Message, W: Write, J: Judge>(
     }
 }
 
-/// As `pass_as`, of the content of these parts and the last element, if the gate isn't strict.
-fn pass_parts<M: Four, W: Write, J: Judge>(
-    alloc: Global,
+/// Asks the judge about a message that was read of the content of its kind's tag, and writes it if
+/// it has passed. The gate isn't strict.
+pub fn pass_read<M: Message, W: Write, J: Judge>(
     item: ItemTerms<'_>,
-    parts: PartValues,
-    last: Value,
+    message: &M,
+    read: Result<(), CoseError>,
     out: &mut W,
     judge: &mut J,
 ) -> Result<Verdict, ItemFault>
-    requires { item.terms.strict ≡ false }
-    ensures ok { (b : List ℕ)
-        → Reads b (nesting_of item.entry.terms.limits) (tag (number_of M.kind) (four_of parts last))
+    requires lax { item.terms.strict ≡ false }
+    requires read { (u : Tree)
+        × IsReadAs (limits_of item.terms) M.kind (M.message message.now) u read }
+    ensures ok { (b : List ℕ) (u : Tree)
+        → Reads b (nesting_of item.entry.terms.limits) (tag (number_of M.kind) u)
+        → IsReadAs (limits_of item.entry.terms) M.kind (M.message message.now) u read
         → IfOk result (WentThrough
         (item_rules (limits_of item.entry.terms) J.Judge judge.old item.entry.aad.now)
-        b (tag (number_of M.kind) (four_of parts last))
-        (item_sight W.Write J.Judge out.old judge.old)
+        b (tag (number_of M.kind) u) (item_sight W.Write J.Judge out.old judge.old)
         (item_sight W.Write J.Judge out.new judge.new)) }
-    ensures err { (b : List ℕ)
-        → Reads b (nesting_of item.entry.terms.limits) (tag (number_of M.kind) (four_of parts last))
+    ensures err { (b : List ℕ) (u : Tree)
+        → Reads b (nesting_of item.entry.terms.limits) (tag (number_of M.kind) u)
+        → IsReadAs (limits_of item.entry.terms) M.kind (M.message message.now) u read
         → IfErr result (ItemFails
         (item_rules (limits_of item.entry.terms) J.Judge judge.old item.entry.aad.now)
-        b (tag (number_of M.kind) (four_of parts last))
-        (item_sight W.Write J.Judge out.old judge.old)
+        b (tag (number_of M.kind) u) (item_sight W.Write J.Judge out.old judge.old)
         (item_sight W.Write J.Judge out.new judge.new)) }
     ensures who { J.who judge.new ≡ J.who judge.old }
     ensures kept { W.handle out.new ≡ W.handle out.old }
     ensures failed { W.failed out.new ≡ W.failed out.old + item_failures result }
 {
-    let mut message = M::empty(alloc);
-    match message.read_four(alloc, item.terms, parts, last) {
+    match read {
         Ok(()) => {}
         Err(error) => return Ok(Verdict::Refused(shape_refusal(error)?)),
     }
-    if let Some(refusal) = bar_of(&message, true) {
-        return Ok(Verdict::Refused(refusal));
+    match bar_of(message, true) {
+        Some(refusal) => Ok(Verdict::Refused(refusal)),
+        None => pass_message(message, out, item.aad, judge),
     }
-    pass_message(&message, out, item.aad, judge)
 }
 
 /// Whether this is the tag's number in the registry (RFC 9052, section 2).
@@ -291,47 +290,5 @@ pub fn pass<W: Write, J: Judge>(
         CoseMac::TAG => pass_as::<CoseMac, W, J>(alloc, item, exact, content, out, judge),
         _ if is_encrypted(number) => Ok(Verdict::Refused(Refusal::Encrypted)),
         _ => Ok(Verdict::Refused(Refusal::OtherTag(number))),
-    }
-}
-
-/// As `pass`, of what was read at the front.
-pub fn pass_front<W: Write, J: Judge>(
-    alloc: Global,
-    item: ItemTerms<'_>,
-    exact: bool,
-    front: Front,
-    out: &mut W,
-    judge: &mut J,
-) -> Result<Verdict, ItemFault>
-    requires { IsFrontFor item.terms front }
-    ensures ok { (bytes : List ℕ) → IsTaken item.entry.terms bytes (front_view front) exact
-        → IfOk result (WentThrough
-        (item_rules (limits_of item.entry.terms) J.Judge judge.old item.entry.aad.now)
-        bytes (front_view front) (item_sight W.Write J.Judge out.old judge.old)
-        (item_sight W.Write J.Judge out.new judge.new)) }
-    ensures err { (bytes : List ℕ) → IsTaken item.entry.terms bytes (front_view front) exact
-        → IfErr result (ItemFails
-        (item_rules (limits_of item.entry.terms) J.Judge judge.old item.entry.aad.now)
-        bytes (front_view front) (item_sight W.Write J.Judge out.old judge.old)
-        (item_sight W.Write J.Judge out.new judge.new)) }
-    ensures who { J.who judge.new ≡ J.who judge.old }
-    ensures kept { W.handle out.new ≡ W.handle out.old }
-    ensures failed { W.failed out.new ≡ W.failed out.old + item_failures result }
-{
-    match front {
-        Front::Item(value) => pass(alloc, item, exact, value, out, judge),
-        Front::Four(number, protected, unprotected, content, last) => {
-            let parts = PartValues {
-                protected,
-                unprotected,
-                content,
-            };
-            match number {
-                CoseSign1::TAG => pass_parts::<CoseSign1, W, J>(
-                    alloc, item, parts, last, out, judge,
-                ),
-                _ => pass_parts::<CoseMac0, W, J>(alloc, item, parts, last, out, judge),
-            }
-        }
     }
 }

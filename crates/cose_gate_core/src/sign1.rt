@@ -8,11 +8,11 @@ use crate::asking::ask_alone;
 use crate::judge::Judge;
 use crate::message::{Four, Message};
 use crate::terms::Terms;
-use ciborium::Value;
 use ciborium::ser::Sink;
+use ciborium::{Spare, Value, de};
+use ciborium_ll::{Decoder, Read};
 use coset_base::SignatureContext;
 use coset_labels::{AsWritten, CoseError};
-use coset_recipients::PartValues;
 use coset_signed::{CoseSign1, put_tagged_sign1};
 use std::alloc::{AllocError, Global};
 
@@ -62,13 +62,14 @@ impl Message for CoseSign1 {
 }
 
 impl Four for CoseSign1 {
-    fn read_four(
+    fn walk<R: Read>(
         &mut self,
         alloc: Global,
         terms: Terms,
-        parts: PartValues,
-        last: Value,
-    ) -> Result<(), CoseError> {
-        self.fill_four(alloc, parts, last, terms.limits)
+        limit: usize,
+        decoder: &mut Decoder<R>,
+        spare: &mut Spare,
+    ) -> Result<Result<(), CoseError>, de::Error<R::Error>> {
+        CoseSign1::walk(self, alloc, decoder, limit, terms.limits, spare)
     }
 }

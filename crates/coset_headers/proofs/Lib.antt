@@ -21,6 +21,7 @@ pub mod Sound
 pub mod Steps
 pub mod Unique
 pub mod Unset
+pub mod Walked
 pub mod Weights
 pub mod Writable
 pub mod Written

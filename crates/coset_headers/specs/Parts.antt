@@ -1,6 +1,6 @@
 -- The fields that the entries of a header that are read so far have given, and the faults of the
 -- next.
-use Rattle.std.specs.Prelude.{◌≡◌, ◌≢◌, ℕ, pos, ◌≤◌, ◌⊎◌, List, [], ◌∷◌, ◌++◌, length, Bool, false, MatchBool, Some}
+use Rattle.std.specs.Prelude.{◌≡◌, ◌≢◌, ℕ, pos, ◌≤◌, ◌⊎◌, List, [], ◌∷◌, ◌++◌, length, Bool, true, false, MatchBool, Some}
 use Rattle.std.specs.Ordering.{on}
 use Rattle.ciborium_value.specs.Tree.{Tree}
 use Rattle.coset_labels.specs.Fields.{LabelFields, number, Named}
@@ -14,7 +14,7 @@ use Rattle.coset_labels.specs.View.{label_view}
 use Rattle.coset_labels.specs.declared.label.Label.{Label}
 use Rattle.coset_labels.specs.declared.seen_labels.SeenLabels.{SeenLabels}
 use Rattle.coset_headers.specs.Fields.{Plain, Signatures}
-use Rattle.coset_headers.specs.Headers.{is_core, alg_of, crit_of, HasContentType, at, others, IsIn, Distinct, IsPlain, HasSigned}
+use Rattle.coset_headers.specs.Headers.{is_at, is_core, alg_of, crit_of, HasContentType, at, others, IsIn, Distinct, IsPlain, HasSigned}
 use Rattle.coset_headers.specs.View.{plain_parts, signatures_view}
 use Rattle.coset_headers.specs.Wrong.{WrongField}
 use Rattle.coset_headers.specs.declared.fields.Place.{Place}
@@ -61,6 +61,14 @@ KnownIn n es s p k = walks.KnownIn Sees (λ fs q. Known n fs (plain_of q) (signs
 -- one more entry is read
 abbrev pub Added : ℕ → List (LabelFields × Tree) → Tree → Tree → SeenLabels Label → Header → ℕ → Type 0
 Added n es l v s p k = walks.Added label_of Sees (λ fs q. Known n fs (plain_of q) (signs_of q) k) es l v s p
+
+-- the key of the next entry is the label of counter signatures, which is new
+pub record SignsNext (es : List (LabelFields × Tree)) (l : Tree) (s : SeenLabels Label) : Type 0 where
+  pub label : LabelFields
+  pub is : label_of l ≡ Some label
+  pub signs : is_at 7 label ≡ true
+  pub fresh : IsIn label es → ⊥
+  pub sees : (w : Tree) → Sees s (es ++ (label, w) ∷ [])
 
 -- the entry gives one field, and the others stay
 pub data Fills (l : LabelFields) (v : Tree) (p q : Plain) : Type 0 where

@@ -1,30 +1,44 @@
 //! Reads headers. Values are moved into the fields of the header that is filled, and no label is
 //! copied before the 65th without a field of its own. What lies inside one another is read by a
 //! loop, so that it takes no stack.
-ghost use Rattle.std.specs.Prelude.{◌≡◌, ◌≢◌, ◌+◌, ◌*◌, ◌<◌, ◌≤◌, ℕ, [], MatchOption};
-ghost use Rattle.std.specs.Prelude.{MatchResult, IfOk, OnOk, None};
+ghost use Rattle.std.specs.Prelude.{◌≡◌, ◌≢◌, ◌+◌, ◌*◌, ◌<◌, ◌≤◌, ◌++◌, ℕ, List, []};
+ghost use Rattle.std.specs.Prelude.{◌∷◌, MatchOption, MatchResult, IfOk, OnOk, IfSome, Some, None};
 ghost use Rattle.std.specs.Vec.Iter.{into_iter_items};
 ghost use Rattle.ciborium.specs.Front.{Reads};
+ghost use Rattle.ciborium.specs.Fronts.{TakesItem};
+ghost use Rattle.ciborium.specs.Maps.{InMap};
+ghost use Rattle.ciborium.specs.Reading.{Steady};
+ghost use Rattle.ciborium_ll.specs.Seen.{Seen, Takes};
+ghost use Rattle.ciborium_ll.specs.Views.{seen, waiting_of};
 ghost use Rattle.ciborium_value.specs.Tree as spec;
 ghost use Rattle.ciborium_value.specs.Tree.{Tree};
 ghost use Rattle.ciborium_value.specs.View.{view, views, view_pairs};
 ghost use Rattle.coset_labels.specs.Faults.{OrMemory, fault_of};
+ghost use Rattle.coset_labels.specs.Fields.{LabelFields};
 ghost use Rattle.coset_labels.specs.declared.error.CoseError.TheVariants.{Memory};
 ghost use Rattle.coset_headers.specs.Fields.{no_header, protected};
-ghost use Rattle.coset_headers.specs.Headers.{HasHeader, HasProtected, HasSignature, list_of_three};
+ghost use Rattle.coset_headers.specs.Headers.{HasHeader, HasProtected, HasSignature, HasSigned};
+ghost use Rattle.coset_headers.specs.Headers.{list_of_three};
 ghost use Rattle.coset_headers.specs.Levels.{Going, Signed, IsNext, Reading, ReadingSigned};
 ghost use Rattle.coset_headers.specs.Levels.{ReadingInside, open_left, signatures_left};
 ghost use Rattle.coset_headers.specs.Levels.{signing_left, work};
+ghost use Rattle.coset_headers.specs.Parts.{KnownIn, Added, SignsNext};
 ghost use Rattle.coset_headers.specs.View.{header_view, protected_view, signature_view};
+ghost use Rattle.coset_headers.specs.View.{signatures_view};
+ghost use Rattle.coset_headers.specs.Walks.{Inside, WrongInside, IsHeader, AreRead};
 ghost use Rattle.coset_headers.specs.Weight.{weight, weight_all, weight_pairs};
-ghost use Rattle.coset_headers.specs.Wrong.{WrongHeader, WrongProtected, WrongSignature};
+ghost use Rattle.coset_headers.specs.Wrong.{WrongHeader, WrongEntry, WrongProtected, WrongSignature};
+ghost use Rattle.coset_headers.specs.Wrong.{WrongSigned};
 
 use crate::fields::place_of;
 use crate::header::{CoseSignature, Header, ProtectedHeader};
 use crate::values::is_bare;
-use ciborium_value::Value;
+use ciborium::{Decoder, MapReader, MapStart, Read, Spare, de};
+use ciborium_value::{Integer, Value};
 use coset_labels::tuples::{count_structures, three};
-use coset_labels::{AsCborValue, CoseError, Label, SeenLabels, ValueTryAs, read_to_value};
+use coset_labels::{
+    AsCborValue, CoseError, Label, SeenLabels, ValueTryAs, is_short, read_to_value,
+};
 use std::alloc::Global;
 use std::mem;
 use std::vec::IntoIter;
@@ -106,19 +120,180 @@ impl Open {
             (λ value. open_left self.new + weight (view value) < open_left self.old)) }
     {
         'entries: while let Some((key, value)) = self.entries.next() {
-            let label = Label::from_cbor_value(alloc, key)?;
-            let place = place_of(&label);
-            let fresh = into.is_new(alloc, &mut self.seen, place, &label)?;
-            if !fresh {
-                return Err(CoseError::DuplicateMapKey);
+            let signed = read_entry(alloc, &mut self.seen, key, value, into)?;
+            match signed {
+                Some(value) => return Ok(Some(value)),
+                None => {}
             }
-            if place.is_counter_signatures() {
-                return Ok(Some(value));
-            }
-            into.set(alloc, place, label, value)?;
         }
         Ok(None)
     }
+}
+
+/// Reads an entry into the header. Of counter signatures only the label is read, and their value is
+/// given back.
+fn read_entry(
+    alloc: Global,
+    seen: &mut SeenLabels<Label>,
+    key: Value,
+    value: Value,
+    into: &mut Header,
+) -> Result<Option<Value>, CoseError>
+    ensures read { (n k : ℕ) (es : List (LabelFields × Tree))
+        → KnownIn n es seen.old into.old k → MatchResult result
+        (λ o. MatchOption o (Added n es (view key) (view value) seen.new into.new k)
+        (λ _. SignsNext es (view key) seen.new))
+        (λ e. OrMemory (WrongEntry n es (view key) (view value) k) e) }
+    ensures same { IfOk result (λ o. IfSome o (λ v. (v ≡ value) × (into.new ≡ into.old))) }
+{
+    let label = Label::from_cbor_value(alloc, key)?;
+    let place = place_of(&label);
+    let fresh = into.is_new(alloc, seen, place, &label)?;
+    if !fresh {
+        return Err(CoseError::DuplicateMapKey);
+    }
+    if place.is_counter_signatures() {
+        return Ok(Some(value));
+    }
+    into.set(alloc, place, label, value)?;
+    Ok(None)
+}
+
+/// Reads an entry into the header, within a nesting limit and some protected layers. `read` is what
+/// reading those before it gave: after a fault no entry is looked at.
+fn fill_entry(
+    alloc: Global,
+    seen: &mut SeenLabels<Label>,
+    read: Result<(), CoseError>,
+    entry: (Value, Value),
+    nesting: usize,
+    layers: usize,
+    into: &mut Header,
+) -> Result<(), CoseError>
+    ensures { (ps : List (Tree × Tree)) → AreRead nesting layers ps seen.old into.old read
+        → AreRead nesting layers (ps ++ (view entry.0, view entry.1) ∷ []) seen.new into.new
+        result }
+{
+    read?;
+    let (key, value) = entry;
+    let signed = read_entry(alloc, seen, key, value, into)?;
+    match signed {
+        None => Ok(()),
+        Some(value) => {
+            let signatures = read_signatures(alloc, value, nesting, layers)?;
+            into.counter_signatures = signatures;
+            Ok(())
+        }
+    }
+}
+
+/// Reads counter signatures, within a nesting limit and some protected layers.
+fn read_signatures(
+    alloc: Global,
+    value: Value,
+    nesting: usize,
+    layers: usize,
+) -> Result<Vec<CoseSignature>, CoseError>
+    ensures { MatchResult result
+        (λ ss. HasSigned nesting (Some (view value)) (signatures_view ss.items) layers)
+        (λ e. OrMemory (WrongSigned nesting (view value) layers) e) }
+{
+    let mut entries = Vec::new(alloc);
+    entries.push((Value::Integer(Integer::from(7u64)), value))?;
+    let mut header = Header::new(alloc);
+    fill_entries(alloc, entries, nesting, layers, &mut header)?;
+    Ok(header.counter_signatures)
+}
+
+/// Reads the next item as a header into an empty one. After a fault of the header the rest of its
+/// map is taken too.
+pub(crate) fn walk_header<R: Read>(
+    alloc: Global,
+    decoder: &mut Decoder<R>,
+    limit: usize,
+    nesting: usize,
+    layers: usize,
+    into: &mut Header,
+    spare: &mut Spare,
+) -> Result<Result<(), CoseError>, de::Error<R::Error>>
+    requires fresh { waiting_of decoder.old ≡ None }
+    requires empty { header_view into.old ≡ no_header }
+    ensures read { TakesItem R.ends limit (λ r t. IsHeader nesting layers t into.new r) result
+        (seen R.Read decoder.old) (seen R.Read decoder.new) }
+    ensures steady { Steady R.ends result (seen R.Read decoder.old) (seen R.Read decoder.new) }
+{
+    let start = MapReader::begin(alloc, decoder, limit, spare)?;
+    match start {
+        MapStart::Map(entries) => {
+            walk_entries(alloc, decoder, entries, nesting, layers, into, spare)
+        }
+        MapStart::Other(value) => Ok(fill_header(alloc, value, nesting, layers, into)),
+    }
+}
+
+/// Reads the entries of a map as a header into an empty one.
+fn walk_entries<R: Read>(
+    alloc: Global,
+    decoder: &mut Decoder<R>,
+    entries: MapReader,
+    nesting: usize,
+    layers: usize,
+    into: &mut Header,
+    spare: &mut Spare,
+) -> Result<Result<(), CoseError>, de::Error<R::Error>>
+    requires fresh { waiting_of decoder.old ≡ None }
+    requires empty { header_view into.old ≡ no_header }
+    ensures read { (limit : ℕ) (start : Seen)
+        → Takes start (seen R.Read decoder.old) (InMap limit entries [])
+        → TakesItem R.ends limit (λ r t. IsHeader nesting layers t into.new r) result
+        start (seen R.Read decoder.new) }
+    ensures steady { Steady R.ends result (seen R.Read decoder.old) (seen R.Read decoder.new) }
+{
+    let mut entries = entries;
+    let mut seen = SeenLabels::new(alloc);
+    let mut read = Ok(());
+    'entries: loop {
+        let next = entries.next(alloc, decoder, spare)?;
+        match next {
+            None => return Ok(read),
+            Some(entry) => {
+                read = fill_entry(alloc, &mut seen, read, entry, nesting, layers, into);
+            }
+        }
+    }
+}
+
+/// Reads the header in these bytes into an empty one; none is there if they are empty.
+fn walk_bytes(
+    alloc: Global,
+    bytes: &[u8],
+    nesting: usize,
+    layers: usize,
+    into: &mut Header,
+) -> Result<(), CoseError>
+    requires empty { header_view into.old ≡ no_header }
+    ensures { MatchResult result (λ _. Inside nesting (header_view into.new) bytes.now layers)
+        (λ e. OrMemory (WrongInside nesting bytes.now layers) e) }
+{
+    if bytes.is_empty() {
+        return Ok(());
+    }
+    is_short(bytes);
+    let mut decoder = Decoder::from(bytes);
+    let mut spare = Spare::new(alloc);
+    let read = walk_header(
+        alloc,
+        &mut decoder,
+        nesting,
+        nesting,
+        layers,
+        into,
+        &mut spare,
+    )?;
+    if decoder.offset() < bytes.len() {
+        return Err(CoseError::ExtraneousData);
+    }
+    read
 }
 
 /// Reads a header, with a nesting limit and some protected layers left.
@@ -379,6 +554,18 @@ fn split(value: Value) -> Result<(Value, Vec<(Value, Value)>, Vec<u8>), CoseErro
     }
 }
 
+/// The bytes of a protected header.
+fn protected_bytes(value: Value, layers: usize) -> Result<Vec<u8>, CoseError>
+    ensures { MatchResult result (λ b. (view value ≡ spec.bytes b.items) × (0 < layers))
+        (λ e. (n : ℕ) → OrMemory (WrongProtected n (view value) layers) e) }
+{
+    let bytes = value.try_as_bytes()?;
+    if layers == 0 {
+        return Err(CoseError::TooManyLayers);
+    }
+    Ok(bytes)
+}
+
 /// The bytes of a protected header, and the entries of the header in them: none if they are empty.
 fn open_protected(
     alloc: Global,
@@ -392,10 +579,7 @@ fn open_protected(
         × Reads p.0.items nesting (spec.map (view_pairs es.items))))
         (λ e. OrMemory (WrongProtected nesting (view value) layers) e) }
 {
-    let bytes = value.try_as_bytes()?;
-    if layers == 0 {
-        return Err(CoseError::TooManyLayers);
-    }
+    let bytes = protected_bytes(value, layers)?;
     if bytes.is_empty() {
         return Ok((bytes, None));
     }
@@ -453,10 +637,14 @@ pub(crate) fn fill_protected(
         (λ _. HasProtected nesting (view value) (protected_view into.new) layers)
         (λ e. OrMemory (WrongProtected nesting (view value) layers) e) }
 {
-    let (bytes, inside) = open_protected(alloc, value, nesting, layers)?;
-    if let Some(entries) = inside {
-        fill_entries(alloc, entries, nesting, layers - 1, &mut into.header)?;
-    }
+    let bytes = protected_bytes(value, layers)?;
+    walk_bytes(
+        alloc,
+        bytes.as_slice(),
+        nesting,
+        layers - 1,
+        &mut into.header,
+    )?;
     into.original_data = Some(bytes);
     Ok(())
 }

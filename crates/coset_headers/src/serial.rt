@@ -1,6 +1,9 @@
 //! Headers and signatures as values and bytes.
 ghost use Rattle.std.specs.Prelude.{◌≡◌, [], Some, None, MatchResult, OnErr};
 ghost use Rattle.std.specs.Prelude.{option_map};
+ghost use Rattle.ciborium.specs.Fronts.{TakesItem};
+ghost use Rattle.ciborium.specs.Reading.{Steady};
+ghost use Rattle.ciborium_ll.specs.Views.{seen, waiting_of};
 ghost use Rattle.ciborium_value.specs.Tree as spec;
 ghost use Rattle.ciborium_value.specs.View.{view};
 ghost use Rattle.coset_labels.specs.Faults.{OrMemory, CantWrite};
@@ -10,12 +13,16 @@ ghost use Rattle.coset_headers.specs.Fields.{HeaderFields, ProtectedFields, Sign
 ghost use Rattle.coset_headers.specs.Fields.{protected, signature, no_header};
 ghost use Rattle.coset_headers.specs.Headers.{HasHeader, HasProtected, HasSignature};
 ghost use Rattle.coset_headers.specs.View.{header_view, protected_view, signature_view};
+ghost use Rattle.coset_headers.specs.Walks.{IsHeader};
 ghost use Rattle.coset_headers.specs.Written.{header_tree, signature_tree, shown};
 ghost use Rattle.coset_headers.specs.Wrong.{WrongHeader, WrongProtected, WrongSignature};
 
 use crate::header::{CoseSignature, Header, ProtectedHeader};
-use crate::reader::{fill_header, fill_protected, read_header, read_protected, read_signature};
+use crate::reader::{
+    fill_header, fill_protected, read_header, read_protected, read_signature, walk_header,
+};
 use crate::writer::{show_protected, write_header, write_signature};
+use ciborium::{Decoder, Read, Spare, de};
 use ciborium_value::Value;
 use coset_labels::{AsCborValue, CborSerializable, CoseError, Limits};
 use std::alloc::Global;
@@ -35,6 +42,39 @@ impl Header {
             (λ e. OrMemory (WrongHeader (nesting_of limits) (view value) (layers_of limits)) e) }
     {
         read_header(alloc, value, limits.nesting(), limits.layers())
+    }
+
+    /// Reads the next item as a header into this one, which has no field, within these limits. In
+    /// its map at most `limit` levels may open, itself among them. No header may wait in the
+    /// decoder. After an error this one may have any fields.
+    ///
+    /// # Errors
+    /// Outside those of reading the item, and inside a fault that the item has as a header, or
+    /// `Memory`: it was taken then.
+    pub fn walk<R: Read>(
+        &mut self,
+        alloc: Global,
+        decoder: &mut Decoder<R>,
+        limit: usize,
+        limits: Limits,
+        spare: &mut Spare,
+    ) -> Result<Result<(), CoseError>, de::Error<R::Error>>
+        requires fresh { waiting_of decoder.old ≡ None }
+        requires empty { header_view self.old ≡ no_header }
+        ensures read { TakesItem R.ends limit
+            (λ r t. IsHeader (nesting_of limits) (layers_of limits) t self.new r) result
+            (seen R.Read decoder.old) (seen R.Read decoder.new) }
+        ensures steady { Steady R.ends result (seen R.Read decoder.old) (seen R.Read decoder.new) }
+    {
+        walk_header(
+            alloc,
+            decoder,
+            limit,
+            limits.nesting(),
+            limits.layers(),
+            self,
+            spare,
+        )
     }
 
     /// Reads a header into this one, which has no field, within these limits. After an error it has

@@ -23,7 +23,7 @@ pub use crate::kinds::{ValueTryAs, cbor_type_error};
 pub use crate::label::Label;
 pub use crate::limits::Limits;
 pub use crate::order::CborOrdering;
-pub use crate::reading::{read_to_value, write_to_vec};
+pub use crate::reading::{is_short, read_to_value, write_to_vec};
 pub use crate::registered::{
     Algorithm, ContentType, KeyType, RegisteredLabel, RegisteredLabelWithPrivate,
 };

@@ -33,7 +33,7 @@ pub fn read_to_value(alloc: Global, bytes: &[u8], limit: usize) -> Result<Value,
 }
 
 /// No slice is so long that offsets into it could not be counted.
-fn is_short(bytes: &[u8])
+pub fn is_short(bytes: &[u8])
     ensures { length bytes.now + 4096 < 2 ^ 64 }
 {
     let _len = bytes.len();

@@ -2,6 +2,7 @@ pub mod AsWritten
 pub mod Builders
 pub mod Calls
 pub mod Copies
+pub mod Elements
 pub mod Fields
 pub mod PartShapes
 pub mod PartsFields

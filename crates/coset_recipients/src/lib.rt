@@ -18,7 +18,7 @@ mod writer;
 pub use crate::as_written::are_canonical_recipients;
 pub use crate::builder::CoseRecipientBuilder;
 pub use crate::copies::clone_recipients;
-pub use crate::parts::{PartValues, Parts, content_bytes, optional_value, write_parts};
+pub use crate::parts::{Elements, PartValues, Parts, content_bytes, optional_value, write_parts};
 pub use crate::parts_sink::begin_parts;
 pub use crate::reader::read_recipients;
 pub use crate::recipient::CoseRecipient;

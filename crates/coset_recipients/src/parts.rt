@@ -1,15 +1,24 @@
 //! The parts that each message and each recipient begins with.
-ghost use Rattle.std.specs.Prelude.{◌≡◌, MatchResult, OnErr, map, option_map};
+ghost use Rattle.std.specs.Prelude.{◌≡◌, [], ◌∷◌, None, MatchResult, OnErr, map, option_map};
+ghost use Rattle.ciborium.specs.Fronts.{TakesFour};
+ghost use Rattle.ciborium.specs.Reading.{Steady};
+ghost use Rattle.ciborium_ll.specs.Views.{seen, waiting_of};
+ghost use Rattle.ciborium_value.specs.Tree.{Trees, array, bytes};
 ghost use Rattle.ciborium_value.specs.View.{view};
+ghost use Rattle.coset_headers.specs.Fields.{protected, no_header};
+ghost use Rattle.coset_headers.specs.View.{header_view, protected_view};
+ghost use Rattle.coset_headers.specs.declared.header.Header.{Header};
 ghost use Rattle.coset_labels.specs.Faults.{OrMemory};
 ghost use Rattle.coset_labels.specs.Limits.{nesting_of, layers_of};
 ghost use Rattle.coset_recipients.specs.PartsFields.{no_parts};
 ghost use Rattle.coset_recipients.specs.Results.{Writes};
-ghost use Rattle.coset_recipients.specs.PartShapes.{HasParts};
+ghost use Rattle.coset_recipients.specs.Elements.{AreElements};
+ghost use Rattle.coset_recipients.specs.PartShapes.{HasParts, HasWhole};
 ghost use Rattle.coset_recipients.specs.PartsView.{parts_in, parts_view};
-ghost use Rattle.coset_recipients.specs.WrongParts.{WrongParts};
+ghost use Rattle.coset_recipients.specs.WrongParts.{WrongParts, WrongWhole, IsNoBytes};
 ghost use Rattle.coset_recipients.specs.PartsWritten.{optional_tree, parts_trees, content_bytes};
 
+use ciborium::{Decoder, Read, Spare, de, read_next};
 use ciborium_value::Value;
 use coset_headers::{Header, ProtectedHeader};
 use coset_labels::{AsCborValue, CoseError, Limits, ValueTryAs};
@@ -101,6 +110,80 @@ impl PartValues {
         }
         *content = carried;
         Ok(())
+    }
+}
+
+/// The four elements of a message, of which the unprotected header was read already.
+#[derive(Drop)]
+pub struct Elements {
+    protected: Value,
+    unprotected: Result<(), CoseError>,
+    content: Value,
+    last: Value,
+}
+
+impl Elements {
+    /// Takes the next four items, each of at most `limit` levels, and reads the second as a header
+    /// into one that has no field. No header may wait in the decoder.
+    ///
+    /// # Errors
+    /// Those of reading the items. A fault of the header is kept.
+    pub fn take<R: Read>(
+        alloc: Global,
+        decoder: &mut Decoder<R>,
+        limit: usize,
+        limits: Limits,
+        unprotected: &mut Header,
+        spare: &mut Spare,
+    ) -> Result<Elements, de::Error<R::Error>>
+        requires fresh { waiting_of decoder.old ≡ None }
+        requires empty { header_view unprotected.old ≡ no_header }
+        ensures read { TakesFour R.ends limit
+            (AreElements (nesting_of limits) (layers_of limits) unprotected.new) result
+            (seen R.Read decoder.old) (seen R.Read decoder.new) }
+        ensures steady { Steady R.ends result (seen R.Read decoder.old) (seen R.Read decoder.new) }
+    {
+        let protected = read_next(alloc, decoder, limit, spare)?;
+        let read = unprotected.walk(alloc, decoder, limit, limits, spare)?;
+        let content = read_next(alloc, decoder, limit, spare)?;
+        let last = read_next(alloc, decoder, limit, spare)?;
+        Ok(Elements {
+            protected,
+            unprotected: read,
+            content,
+            last,
+        })
+    }
+
+    /// Reads the other elements, from the last to the first, into their places, which are empty.
+    /// `want` names what the content should have been, for the text of its error. After an error
+    /// they may have any fields.
+    ///
+    /// # Errors
+    /// A fault that one of the elements has, or `Memory`.
+    pub fn fill(
+        self,
+        alloc: Global,
+        limits: Limits,
+        want: &'static str,
+        header: &mut ProtectedHeader,
+        content: &mut Option<Vec<u8>>,
+    ) -> Result<Vec<u8>, CoseError>
+        requires empty { protected_view header.old ≡ protected None no_header }
+        ensures { (h : Header) (ts : Trees)
+            → AreElements (nesting_of limits) (layers_of limits) h self ts
+            → MatchResult result (λ last. HasWhole (nesting_of limits) (array ts)
+            (parts_in header.new h content.new) ((λ d. d ≡ bytes last.items) ∷ [])
+            (layers_of limits))
+            (λ e. OrMemory (WrongWhole (nesting_of limits) (array ts) (IsNoBytes ∷ [])
+            (layers_of limits)) e) }
+    {
+        let last = self.last.try_as_bytes()?;
+        let carried = self.content.try_as_bytes_or_nil(want)?;
+        self.unprotected?;
+        header.fill_bstr(alloc, self.protected, limits)?;
+        *content = carried;
+        Ok(last)
     }
 }
 

@@ -1,7 +1,14 @@
 //! Messages with one signature as values and bytes.
-ghost use Rattle.std.specs.Prelude.{◌≡◌, OnErr};
+ghost use Rattle.std.specs.Prelude.{◌≡◌, None, OnErr};
+ghost use Rattle.ciborium.specs.Fronts.{TakesFour};
+ghost use Rattle.ciborium.specs.Reading.{Steady};
+ghost use Rattle.ciborium_ll.specs.Views.{seen, waiting_of};
+ghost use Rattle.ciborium_value.specs.Tree.{Trees, array};
 ghost use Rattle.ciborium_value.specs.View.{view};
-ghost use Rattle.coset_labels.specs.Limits.{nesting, layers};
+ghost use Rattle.coset_headers.specs.Fields.{protected, no_header};
+ghost use Rattle.coset_headers.specs.View.{protected_view};
+ghost use Rattle.coset_labels.specs.Limits.{nesting, layers, nesting_of, layers_of};
+ghost use Rattle.coset_recipients.specs.Elements.{AreElements};
 ghost use Rattle.coset_recipients.specs.PartsView.{four_of};
 ghost use Rattle.coset_recipients.specs.Results.{ReadsWithin};
 ghost use Rattle.coset_signed.specs.Fields.{Sign1Fields, no_sign1};
@@ -11,13 +18,14 @@ ghost use Rattle.coset_signed.specs.Written.{sign1_tree};
 ghost use Rattle.coset_signed.specs.Wrong.{WrongSign1};
 
 use crate::sign1::CoseSign1;
+use ciborium::{Decoder, Read, Spare, de};
 use ciborium_value::Value;
 use cose_iana::CborTag;
 use coset_labels::tuples::four;
 use coset_labels::{
     AsCborValue, CborSerializable, CoseError, Limits, TaggedCborSerializable, ValueTryAs,
 };
-use coset_recipients::{PartValues, Parts, write_parts};
+use coset_recipients::{Elements, PartValues, Parts, write_parts};
 use std::alloc::Global;
 
 /// The elements are read from the last to the first.
@@ -113,6 +121,56 @@ impl CoseSign1 {
             "bstr or nil",
             &mut self.protected,
             &mut self.unprotected,
+            &mut self.payload,
+        )?;
+        self.signature = signature;
+        Ok(())
+    }
+
+    /// Reads the next four items, which are the elements of a message, into one that has no field,
+    /// within these limits. Each item opens at most `limit` levels. No header may wait in the
+    /// decoder. After an error the message may have any fields.
+    ///
+    /// # Errors
+    /// Outside those of reading the items, and inside those of `from_cbor_value_with`: the items
+    /// were taken then.
+    pub fn walk<R: Read>(
+        &mut self,
+        alloc: Global,
+        decoder: &mut Decoder<R>,
+        limit: usize,
+        limits: Limits,
+        spare: &mut Spare,
+    ) -> Result<Result<(), CoseError>, de::Error<R::Error>>
+        requires fresh { waiting_of decoder.old ≡ None }
+        requires empty { sign1_view self.old ≡ no_sign1 }
+        ensures read { TakesFour R.ends limit (λ r ts. ReadsWithin limits HasSign1 WrongSign1 (array ts)
+            (λ _. sign1_view self.new) r) result
+            (seen R.Read decoder.old) (seen R.Read decoder.new) }
+        ensures steady { Steady R.ends result (seen R.Read decoder.old) (seen R.Read decoder.new) }
+    {
+        let elements = Elements::take(alloc, decoder, limit, limits, &mut self.unprotected, spare)?;
+        Ok(self.fill_elements(alloc, elements, limits))
+    }
+
+    /// Reads the elements of which the unprotected header was read into this message, which has no
+    /// other field.
+    fn fill_elements(
+        &mut self,
+        alloc: Global,
+        elements: Elements,
+        limits: Limits,
+    ) -> Result<(), CoseError>
+        requires empty { protected_view self.old.protected ≡ protected None no_header }
+        ensures { (ts : Trees) → AreElements (nesting_of limits) (layers_of limits)
+            self.old.unprotected elements ts
+            → ReadsWithin limits HasSign1 WrongSign1 (array ts) (λ _. sign1_view self.new) result }
+    {
+        let signature = elements.fill(
+            alloc,
+            limits,
+            "bstr or nil",
+            &mut self.protected,
             &mut self.payload,
         )?;
         self.signature = signature;

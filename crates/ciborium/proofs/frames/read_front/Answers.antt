@@ -2,16 +2,15 @@ use Rattle.std.proofs.Common.{subst}
 use Rattle.ciborium_ll.specs.declared.hdr.Header.TheVariants.{Tag}
 use Rattle.ciborium_ll.specs.Title.{Title}
 use Rattle.ciborium_ll.specs.Views.{seen}
-use Rattle.ciborium.specs.Front.{Reads, HoldsOne}
-use Rattle.ciborium.specs.Fronts.{front_view}
-use Rattle.ciborium.specs.Reading.{ReadsAfterTitle}
+use Rattle.ciborium.specs.Front.{HoldsOne}
+use Rattle.ciborium.specs.Fronts.{IsFront, IsTagged}
 use Rattle.ciborium.proofs.ReadLemmas.{item_title_fails}
 use Rattle.ciborium.proofs.Taking.{takes_as, takes_then}
 use Rattle.ciborium.proofs.Halting.{some_then, memory_then}
 use Rattle.ciborium.proofs.TagLemmas.{tag_fails}
 use Rattle.ciborium.proofs.TurnLemmas.{item_fails}
 use Rattle.ciborium.proofs.OneItem.{tag_one}
-use Rattle.ciborium.proofs.FrontLemmas.{ok_as, err_as}
+use Rattle.ciborium.proofs.FrontLemmas.{ok_as, err_as, front_read}
 use Rattle.ciborium.proofs.Passing.{passed_on}
 use Rattle.ciborium.proofs.frames.read_front.Goals as goal
 
@@ -29,8 +28,8 @@ returns-in_err-value-in-None-clause-one g c =
 
 pub returns-in-Some-clause-ok : goal.returns-in-Some-clause-ok
 returns-in-Some-clause-ok g c =
-    ok_as c.read_tagged.result _ _ (λ f t. takes_then _ _ _ _ _ _ _ (ReadsAfterTitle (Tag c.in-Some.n) c.args.limit (front_view f)) (λ b. Reads b c.args.limit (front_view f)) c.in_ok-next_head.ensures.ok t
-    (λ x y p r. r x (subst (Title x) c.in-Some.ensures.0 p.0))) c.read_tagged.ensures.ok
+    ok_as c.read_tagged.result _ _ (λ f t. takes_then _ _ _ _ _ _ _ (IsTagged c.in-Some.n c.args.limit f) (IsFront c.args.limit f) c.in_ok-next_head.ensures.ok t
+    (λ x y p r. front_read c.in-Some.n c.args.limit f x y c.in-Some.ensures.1 (subst (Title x) c.in-Some.ensures.0 p.0) r)) c.read_tagged.ensures.ok
 
 pub returns-in-Some-clause-err : goal.returns-in-Some-clause-err
 returns-in-Some-clause-err g c =

@@ -1,15 +1,12 @@
-use Rattle.std.proofs.Common.{rules, ◌≡◌, ◌-◌, inl, Some, subst, arith}
+use Rattle.std.proofs.Common.{rules, refl, ◌≡◌, ◌-◌, inl, Some, subst, arith}
 use Rattle.ciborium_ll.specs.declared.hdr.Header.TheVariants.{Tag, Array}
 use Rattle.ciborium_ll.specs.Title.{Title}
-use Rattle.ciborium_ll.specs.Views.{seen, last_head}
+use Rattle.ciborium_ll.specs.Views.{last_head}
 use Rattle.ciborium_value.specs.View.{view}
-use Rattle.ciborium.specs.Front.{HoldsOne}
-use Rattle.ciborium.specs.Fronts.{front_view, IsFour, FourOne}
-use Rattle.ciborium.specs.Reading.{ReadsAfterTitle}
 use Rattle.ciborium.proofs.Taking.{takes_as, takes_then}
 use Rattle.ciborium.proofs.Halting.{some_then, some_taken, fold_not_long, memory_then, memory_of}
 use Rattle.ciborium.proofs.TagLemmas.{plain_title, level_item}
-use Rattle.ciborium.proofs.FrontLemmas.{plain, ok_as, err_as, leaves_then, four_reads, four_tells, four_one, content_reads, content_one}
+use Rattle.ciborium.proofs.FrontLemmas.{plain, content_reads, content_one}
 use Rattle.ciborium.proofs.Passing.{passed_on}
 use Rattle.ciborium.proofs.frames.read_tagged.Goals as goal
 
@@ -20,20 +17,7 @@ returns-in_err-next_head-clause-err g c =
 pub returns-then-is_four-clause-ok : goal.returns-then-is_four-clause-ok
 returns-then-is_four-clause-ok g c =
     let head : last_head c.next_head.new.decoder ≡ Array (Some 4) = c.is_four.ensures (search rules) in
-    ok_as c.read_four.result _ _ (λ f t. takes_then _ _ _ _ _ _ _ (IsFour c.args.n (c.args.limit - 2) (front_view f)) (ReadsAfterTitle (Tag c.args.n) c.args.limit (front_view f)) c.in_ok-next_head.ensures.ok t
-    (λ x y p r. four_reads c.args.n c.args.limit (front_view f) x y c.requires.two (subst (Title x) head p.0) r)) c.read_four.ensures.ok
-
-pub returns-then-is_four-clause-err : goal.returns-then-is_four-clause-err
-returns-then-is_four-clause-err g c =
-    let head : last_head c.next_head.new.decoder ≡ Array (Some 4) = c.is_four.ensures (search rules) in
-    err_as c.read_four.result _ _ (λ e w. four_tells g.R.Read.ends c.args.n c.args.limit _ _ _ _ _ e (plain c.args.n c.requires.message) c.requires.two
-    (takes_as _ _ _ _ _ _ c.in_ok-next_head.ensures.ok (λ x p. subst (Title x) head p.0)) w) c.read_four.ensures.err
-
-pub returns-then-is_four-clause-leaves : goal.returns-then-is_four-clause-leaves
-returns-then-is_four-clause-leaves g c =
-    let head : last_head c.next_head.new.decoder ≡ Array (Some 4) = c.is_four.ensures (search rules) in
-    leaves_then g.R.Read.ends _ (FourOne (c.args.limit - 2)) HoldsOne c.read_four.result _ (seen g.R.Read c.args.decoder.now) (seen g.R.Read c.next_head.new.decoder) (seen g.R.Read c.read_four.new.decoder)
-    c.in_ok-next_head.ensures.ok c.in_ok-next_head.ensures.steady (λ x y p one. four_one (c.args.limit - 2) x y (subst (Title x) head p.0) one) c.read_four.ensures.leaves
+    takes_as _ _ _ _ _ _ c.in_ok-next_head.ensures.ok (λ x p. (refl, subst (Title x) head p.0))
 
 pub returns-in_err-content-clause-err : goal.returns-in_err-content-clause-err
 returns-in_err-content-clause-err g c =
