@@ -779,9 +779,25 @@ pub fn read_headed<R: Read>(
     ensures leaves { Leaves R.ends (OneAfterTitle (last_head decoder.old)) result
         (seen R.Read decoder.old) (seen R.Read decoder.new) }
 {
-    let header = decoder.head();
-    let mut exact = Exactness { holds: false };
-    read_item(alloc, decoder, header, at, limit, &mut exact, spare)
+    match decoder.major() {
+        0 => Ok(Value::Integer(Integer::from(decoder.head_number()))),
+        1 => Ok(Value::Integer(Integer::negative(decoder.head_number()))),
+        2 => {
+            let length = decoder.head_length();
+            let bytes = read_string(alloc, decoder, length, at)?;
+            Ok(Value::Bytes(bytes))
+        }
+        3 => {
+            let length = decoder.head_length();
+            let text = read_text(alloc, decoder, length, at)?;
+            Ok(Value::Text(text))
+        }
+        _ => {
+            let header = decoder.head();
+            let mut exact = Exactness { holds: false };
+            read_item(alloc, decoder, header, at, limit, &mut exact, spare)
+        }
+    }
 }
 
 /// The next item, which opens at most `limit` levels. No header may wait.
@@ -805,11 +821,6 @@ pub fn read_next<R: Read>(
 {
     let at = decoder.offset();
     next_head(decoder)?;
-    if decoder.major() == 2 {
-        let length = decoder.head_length();
-        let bytes = read_string(alloc, decoder, length, at)?;
-        return Ok(Value::Bytes(bytes));
-    }
     read_headed(alloc, decoder, at, limit, spare)
 }
 

@@ -1,6 +1,6 @@
 -- The claims as fields with numbers: a value has one set of claims at most, one more entry gives one
 -- field, and claims that were read, written and read again are the first.
-use Rattle.std.proofs.Common.{◌≡◌, ℕ, ℤ, pos, List, [], ◌∷◌, ◌++◌, map, Bool, true, false, ◌||◌, cond, nat_eq, Option, Some, None, option_map, refl, sym, ap, subst, ◌∙◌}
+use Rattle.std.proofs.Common.{◌≡◌, ℕ, ℤ, pos, List, [], ◌∷◌, ◌++◌, map, Bool, true, false, ◌||◌, cond, MatchBool, nat_eq, Option, Some, None, option_map, refl, sym, ap, subst, ◌∙◌}
 use Rattle.cose_iana.specs.Claims.{cwt_claim_names}
 use Rattle.cose_iana.specs.Registry.{is_private_use}
 use Rattle.ciborium_value.specs.Tree.{Tree, integer, bytes, text, map as map_tree, float}
@@ -13,7 +13,7 @@ use Rattle.coset_labels.specs.Labels.{is_i64, named_tree}
 use Rattle.coset_claims.specs.Fields.{TimeFields, whole_seconds, fractional_seconds, ClaimsFields, no_claims}
 use Rattle.coset_claims.specs.Claims.{is_core, name_of, text_of, time_of, bytes_of, entries, at, others, IsClaims, HasClaims}
 use Rattle.coset_claims.specs.Steps.{Fills, fills_field, fills_rest}
-use Rattle.coset_labels.specs.Table.{entry_of, entries_of, Choose}
+use Rattle.coset_labels.specs.Table.{entry_of, entries_of}
 use Rattle.coset_claims.specs.Written.{time_tree, field_entry, written_entries, entry_tree, claims_tree}
 use Rattle.coset_labels.proofs.Table.{counts, optional_back, entered, not_own, again}
 
@@ -89,7 +89,7 @@ filled es p q m v w d (fills_field n e c s) =
     })
   where
     one : {A : Type 0} (f : Tree → Option (Option A)) (k n : ℕ) (es : List (Named × Tree)) (v : Tree) (old new : Option A) → (IsIn (key n) es → ⊥) → IsField f None (at k es) old
-        → Choose (nat_eq k n) (f v ≡ Some new) (old ≡ new) → IsField f None (at k (es ++ (key n, v) ∷ [])) new
+        → MatchBool (nat_eq k n) (f v ≡ Some new) (old ≡ new) → IsField f None (at k (es ++ (key n, v) ∷ [])) new
     one f = entered is_name key (λ n m. refl) is_name_is (IsField f None)
 filled es p q m v w d (fills_rest c g) =
     subst (IsClaims (es ++ (m, v) ∷ [])) (sym g) (record {

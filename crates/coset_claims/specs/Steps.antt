@@ -1,5 +1,5 @@
 -- What the parts of the reader show.
-use Rattle.std.specs.Prelude.{◌≡◌, ℕ, pos, List, [], ◌∷◌, ◌++◌, true, false, nat_eq, Option, Some, option_map}
+use Rattle.std.specs.Prelude.{◌≡◌, ℕ, pos, List, [], ◌∷◌, ◌++◌, true, false, MatchBool, nat_eq, Option, Some, option_map}
 use Rattle.std.specs.Ordering.{on}
 use Rattle.cose_iana.specs.declared.claims.CwtClaimName.{CwtClaimName}
 use Rattle.ciborium_value.specs.Tree.{Tree, Pairs}
@@ -12,7 +12,6 @@ use Rattle.coset_labels.specs.declared.registered.RegisteredLabelWithPrivate.{Re
 use Rattle.coset_labels.specs.declared.seen_labels.SeenLabels.{SeenLabels}
 use Rattle.coset_claims.specs.Claims.{is_core, text_of, time_of, bytes_of, name_of, IsClaims}
 use Rattle.coset_claims.specs.Fields.{ClaimsFields}
-use Rattle.coset_labels.specs.Table.{Choose}
 use Rattle.coset_claims.specs.View.{name_view, claims_view}
 use Rattle.coset_claims.specs.declared.cwt.ClaimsSet.{ClaimsSet}
 use Rattle.coset_claims.specs.declared.reader.Place.{Place}
@@ -31,7 +30,7 @@ Names place.Rest m = is_core m ≡ false
 
 -- the value of the claim n gives the field of the claim k, if it is that one; else the field stays
 abbrev pub Sets : {A : Type 0} → (Tree → Option A) → ℕ → ℕ → Tree → Option A → Option A → Type 0
-Sets f k n v old new = Choose (nat_eq k n) (option_map Some (f v) ≡ Some new) (old ≡ new)
+Sets f k n v old new = MatchBool (nat_eq k n) (option_map Some (f v) ≡ Some new) (old ≡ new)
 
 pub record SetsOne (n : ℕ) (v : Tree) (p q : ClaimsFields) : Type 0 where
   pub issuer : Sets text_of 1 n v p.issuer q.issuer

@@ -1,5 +1,5 @@
 -- The fields of a key with their numbers, and the fields that its entries give one after another.
-use Rattle.std.proofs.Common.{◌≡◌, ℕ, pos, List, [], ◌∷◌, ◌++◌, Bool, true, false, ◌||◌, nat_eq, Option, Some, None, option_map, refl, sym, ap, subst, ◌∙◌}
+use Rattle.std.proofs.Common.{◌≡◌, ℕ, pos, List, [], ◌∷◌, ◌++◌, Bool, true, false, ◌||◌, MatchBool, nat_eq, Option, Some, None, option_map, refl, sym, ap, subst, ◌∙◌}
 use Rattle.ciborium_value.specs.Tree.{Tree}
 use Rattle.coset_labels.specs.Entries.{is_label, IsIn, IsField}
 use Rattle.coset_labels.specs.Facts.Entries.{is_label_is, at_old, others_own, others_more, distinct_snoc}
@@ -11,7 +11,6 @@ use Rattle.coset_headers.specs.Written.{bytes_value, crit_value}
 use Rattle.coset_keys.specs.Fields.{KeyFields, reserved, no_key}
 use Rattle.coset_keys.specs.Keys.{is_own, type_of, HasKeyOps, params_of, AreFields}
 use Rattle.coset_keys.specs.Parts.{Fills, fills_kty, fills_key_id, fills_alg, fills_key_ops, fills_base_iv, fills_param, Known}
-use Rattle.coset_labels.specs.Table.{Choose}
 use Rattle.coset_labels.proofs.Table as table
 use Rattle.coset_labels.proofs.Table.{counts, entered}
 
@@ -35,7 +34,7 @@ not_own = table.not_own is_label key (λ n m. refl) is_label_is is_own
 
 -- the entry n gives the field k, if it is that one; else the field stays
 abbrev Sets : {A : Type 0} → (Option Tree → A → Type 0) → ℕ → ℕ → Tree → A → A → Type 0
-Sets has k n v old new = Choose (nat_eq k n) (has (Some v) new) (old ≡ new)
+Sets has k n v old new = MatchBool (nat_eq k n) (has (Some v) new) (old ≡ new)
 
 record SetsOne (n : ℕ) (v : Tree) (p q : KeyFields) : Type 0 where
   kty : Sets (IsField type_of reserved) 1 n v p.kty q.kty

@@ -1,11 +1,11 @@
 -- The laws of maps with fields.
-use Rattle.std.proofs.Common.{◌≡◌, ℕ, inl, inr, List, [], ◌∷◌, ◌++◌, map, Bool, true, false, ◌||◌, cond, nat_eq, Option, Some, None, option_map, option_and_then, refl, sym, ap, subst, ◌∙◌, arith}
+use Rattle.std.proofs.Common.{◌≡◌, ℕ, inl, inr, List, [], ◌∷◌, ◌++◌, map, Bool, true, false, ◌||◌, cond, MatchBool, nat_eq, Option, Some, None, option_map, option_and_then, refl, sym, ap, subst, ◌∙◌, arith}
 use Rattle.std.proofs.lemmas.Bool.Decides.{nat_tests}
 use Rattle.ciborium_value.specs.Tree.{Tree, Pairs, no_pairs, pair_more}
 use Rattle.ciborium_value.specs.View.{pairs}
 use Rattle.coset_labels.specs.Entries.{entries, at, IsIn, Distinct, others, IsField}
 use Rattle.coset_labels.specs.Facts.Entries.{at_old, at_new, at_none, distinct_others}
-use Rattle.coset_labels.specs.Table.{entry_of, entries_of, Choose}
+use Rattle.coset_labels.specs.Table.{entry_of, entries_of}
 
 eq_same : (n : ℕ) → nat_eq n n ≡ true
 eq_same n = grind (arith, nat_tests)
@@ -62,10 +62,10 @@ optional_back f g back (Some t) x w =
 module _ {K : Type 0} (is : ℕ → K → Bool) (key : ℕ → K) (numbered : (n m : ℕ) → is n (key m) ≡ nat_eq n m) (only : (n : ℕ) (m : K) → is n m ≡ true → m ≡ key n) where
   -- ---- one more entry
   pub entered : {A : Type 0} (has : Option Tree → A → Type 0) (k n : ℕ) (es : List (K × Tree)) (v : Tree) (old new : A) → (IsIn (key n) es → ⊥) → has (at (is k) es) old
-      → Choose (nat_eq k n) (has (Some v) new) (old ≡ new) → has (at (is k) (es ++ (key n, v) ∷ [])) new
+      → MatchBool (nat_eq k n) (has (Some v) new) (old ≡ new) → has (at (is k) (es ++ (key n, v) ∷ [])) new
   entered {A} has k n es v old new d h c = by_number (nat_eq k n) refl c
     where
-      by_number : (b : Bool) → nat_eq k n ≡ b → Choose b (has (Some v) new) (old ≡ new) → has (at (is k) (es ++ (key n, v) ∷ [])) new
+      by_number : (b : Bool) → nat_eq k n ≡ b → MatchBool b (has (Some v) new) (old ≡ new) → has (at (is k) (es ++ (key n, v) ∷ [])) new
       by_number true q c =
           let i : is k (key n) ≡ true = numbered k n ∙ q in
           subst (λ z. has z new) (sym (at_new (is k) es (key n) v i (at_none (is k) es (key n) (λ l g. only k (key n) i ∙ sym (only k l g)) d))) c

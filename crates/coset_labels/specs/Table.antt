@@ -1,5 +1,5 @@
 -- Maps with fields: a list of the fields' numbers and what each is written as, if it is.
-use Rattle.std.specs.Prelude.{◌≡◌, ℕ, List, [], ◌∷◌, ◌++◌, Bool, true, false, Option, Some, None}
+use Rattle.std.specs.Prelude.{ℕ, List, [], ◌∷◌, ◌++◌, Option, Some, None}
 use Rattle.ciborium_value.specs.Tree.{Tree}
 
 module _ {K : Type 0} (key : ℕ → K) where
@@ -11,7 +11,3 @@ module _ {K : Type 0} (key : ℕ → K) where
   abbrev pub entries_of : List (ℕ × Option Tree) → List (K × Tree) → List (K × Tree)
   entries_of [] es = es
   entries_of (f ∷ fs) es = entry_of f.0 f.1 ++ entries_of fs es
-
-abbrev pub Choose : Bool → Type 0 → Type 0 → Type 0
-Choose true P Q = P
-Choose false P Q = Q

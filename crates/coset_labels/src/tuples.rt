@@ -1,5 +1,6 @@
 //! Lists of a fixed length, as tuples. Nothing is copied.
-ghost use Rattle.std.specs.Prelude.{◌≡◌, ◌≢◌, ◌≤◌, [], ◌∷◌, length, MatchOption};
+ghost use Rattle.std.specs.Prelude.{◌≡◌, ◌≢◌, [], ◌∷◌, length, count_by, MatchOption};
+ghost use Rattle.coset_labels.specs.Arrays.{is_structure};
 
 use ciborium_value::Value;
 
@@ -64,12 +65,19 @@ pub fn five<T: Drop>(items: Vec<T>) -> Option<(T, T, T, T, T)>
     Some((first, second, third, fourth, fifth))
 }
 
+/// Whether a value is an array of three items or more: it takes four bytes at least.
+fn is_structure(item: &Value) -> bool
+    ensures { result ≡ is_structure item.now }
+{
+    match item {
+        Value::Array(parts) => parts.len() > 2,
+        _ => false,
+    }
+}
+
 /// How many of the items are arrays of three or more: each of them takes four bytes at least.
 pub fn count_structures(items: &[Value]) -> usize
-    ensures { result ≤ length items.now }
+    ensures { result ≡ count_by is_structure items.now }
 {
-    items
-        .iter()
-        .filter(|item| matches!(item, Value::Array(parts) if parts.len() > 2))
-        .count()
+    items.iter().filter(|item| is_structure(item)).count()
 }
