@@ -1,5 +1,5 @@
 use Rattle.std.proofs.lemmas.Result.{err_from_is_err_and}
-use Rattle.coset_recipients.proofs.Elements.{last_wrong, content_wrong, header_wrong, protected_wrong, carried_is, all_has}
+use Rattle.coset_recipients.proofs.ElementSteps.{last_wrong, content_wrong, header_wrong, protected_wrong, carried_is, all_has}
 use Rattle.coset_recipients.proofs.parts.Elements.fill.Goals as goal
 
 pub returns-in_err-last : goal.returns-in_err-last
