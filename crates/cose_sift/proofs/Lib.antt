@@ -1,5 +1,6 @@
 pub mod Going
 pub mod Steps
+pub mod Deep
 pub mod Takes
 pub mod Readable
 pub mod TakenItem
