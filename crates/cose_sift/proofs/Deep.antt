@@ -1,18 +1,26 @@
 -- Items that lie too deep.
-use Rattle.std.proofs.Common.{◌≡◌, ◌<◌, ◌≤◌, ◌+◌, ◌-◌, ◌^◌, ℕ, zero, suc, List, [], ◌∷◌, ◌++◌, length, Option, Some, None, ◌⊎◌, inl, inr, Result, Ok, Err, IfErr, refl, sym, ap, subst, ◌∙◌, append-nil, arith, length-append}
+use Rattle.std.proofs.Common.{◌≡◌, ◌<◌, ◌≤◌, ◌+◌, ◌-◌, ◌^◌, ℕ, zero, suc, List, [], ◌∷◌, ◌++◌, length, Option, Some, None, ◌⊎◌, ◌≢◌, inl, inr, append_assoc, Result, Ok, Err, IfErr, refl, sym, ap, subst, ◌∙◌, append-nil, arith, length-append}
 use Rattle.std.specs.Prelude.{nat_eq, cond, OnErr}
+use Rattle.std.specs.Io.KnownBytes.{Consumes}
 use Rattle.std.proofs.lemmas.List.{append_cancel_left}
 use Rattle.std.proofs.lemmas.List.Sums.{sum_by-append}
+use Rattle.ciborium_ll.specs.Seen.{Seen}
 use Rattle.ciborium_ll.specs.Title.{Title}
 use Rattle.ciborium_ll.specs.declared.hdr.Header.{Header}
 use Rattle.ciborium_ll.proofs.TitleLaws.{not_cut}
+use Rattle.ciborium.proofs.Taking.{takes_then}
+use Rattle.cose_sift.specs.declared.taking.Stop.{Stop}
+use Rattle.cose_sift.specs.declared.taking.Stop.TheVariants as stop
+use Rattle.cose_sift.specs.declared.taking.Taking.{Taking}
 use Rattle.cose_sift.specs.declared.walk.Fault.{Fault}
 use Rattle.cose_sift.specs.declared.walk.Fault.TheVariants as fault
 use Rattle.cose_sift.specs.declared.walk.Holds.{Holds}
 use Rattle.cose_sift.specs.declared.walk.Level.{Level}
 use Rattle.cose_sift.specs.Grammar.{stated, upto, after, body_of, bytes_in, Item, item, Items, no_items, item_more}
 use Rattle.cose_sift.specs.Walking.{Then, Long, Behind, Wants, IsAround, Goes, Agrees, IsDeep, IfDeep, breaks}
-use Rattle.cose_sift.proofs.Steps.{takes_stated, takes_open, wants_there, string_there}
+use Rattle.cose_sift.specs.Taking.{due_by, HeadFails, DeepAt, stopped_at}
+use Rattle.cose_sift.proofs.Steps.{takes_stated, takes_open, wants_there, string_there, only_rest, no_body}
+use Rattle.cose_sift.proofs.TakenItem.{Begun}
 
 -- what is due after `x`
 pub goes_rest : (P Q : List ℕ → Type 0) (x rest : List ℕ) → Goes P Q x → P (x ++ rest) → Q rest
@@ -102,12 +110,65 @@ deep_weaker (Err fault.Syntax) f h = tt
 deep_weaker (Err fault.Deep) f h = f h
 deep_weaker (Err fault.Memory) f h = tt
 
-pub not_deep : {T P : Type 0} (r : Result T Fault) → IfErr r (λ f. f ≡ fault.Syntax) → IfErr r (IfDeep P)
-not_deep (Ok x) h = tt
-not_deep {P = P} (Err f) h = subst (IfDeep P) (sym h) tt
 
 pub over_due : {T A P : Type 0} (r : Result T Fault) → (A → P) → OnErr r A → IfErr r (IfDeep P)
 over_due (Ok x) f h = tt
 over_due (Err fault.Syntax) f h = tt
 over_due (Err fault.Deep) f h = f h
 over_due (Err fault.Memory) f h = tt
+
+-- what is due said otherwise
+deep_as : (P Q : List ℕ → Type 0) (most : ℕ) (x : List ℕ) → ((b : List ℕ) → P b → Q b) → ((b : List ℕ) → Q b → P b) → IsDeep Q most x → IsDeep P most x
+deep_as P Q most x to back d = record {
+  begins = (d.begins.0, back (x ++ d.begins.0) d.begins.1);
+  deep = λ rest p. d.deep rest (to (x ++ rest) p);
+}
+
+-- after the first bytes of an item
+deep_behind : (P : List ℕ → Type 0) (most : ℕ) (x y : List ℕ) → Goes Item P x → IsDeep P most y → IsDeep Item most (x ++ y)
+deep_behind P most x y g d = record {
+  begins = (d.begins.0, subst Item (sym (append_assoc x y d.begins.0)) (g.back (y ++ d.begins.0) d.begins.1));
+  deep = λ rest i. d.deep rest (goes_rest Item P x (y ++ rest) g (subst Item (append_assoc x y rest) i));
+}
+
+pub begun_deep : (old mid new : Seen) (t : Taking) (most : ℕ) (s : Stop) → Begun old mid t → DeepAt (due_by t) most mid new s → DeepAt Item most old new s
+begun_deep old mid new t most (stop.Syntax p) b d = tt
+begun_deep old mid new t most stop.End b d = tt
+begun_deep old mid new t most stop.Cut b d = tt
+begun_deep old mid new t most stop.Deep b d =
+    takes_then old.left mid.left new.left old.offset mid.offset new.offset _ _ (IsDeep Item most) b.taken d (λ x y q e. deep_behind (due_by t) most x y q.0 e)
+begun_deep old mid new t most stop.Input b d = tt
+begun_deep old mid new t most stop.TooLong b d = tt
+begun_deep old mid new t most stop.Memory b d = tt
+
+module _ (P : List ℕ → Type 0) (most : ℕ) (old new : Seen) where
+  pub not_deep : (s : Stop) → s ≢ stop.Deep → DeepAt P most old new s
+  not_deep (stop.Syntax p) n = tt
+  not_deep stop.End n = tt
+  not_deep stop.Cut n = tt
+  not_deep stop.Deep n = absurd (n refl)
+  not_deep stop.Input n = tt
+  not_deep stop.TooLong n = tt
+  not_deep stop.Memory n = tt
+
+  pub head_not_deep : (s : Stop) → HeadFails old new s → DeepAt P most old new s
+  head_not_deep (stop.Syntax p) f = tt
+  head_not_deep stop.End f = tt
+  head_not_deep stop.Cut f = tt
+  head_not_deep stop.Deep f = absurd f
+  head_not_deep stop.Input f = tt
+  head_not_deep stop.TooLong f = tt
+  head_not_deep stop.Memory f = tt
+
+-- the walk stopped at a head
+pub walk_deep : (W : List ℕ → Type 0) (most body : ℕ) (old new : Seen) (h : Header) (at : ℕ) (f : Fault) (s : Stop) (x : List ℕ) → body ≡ 0 → s ≡ stopped_at at f → Title x h
+    → Consumes old.left new.left x → new.offset ≡ old.offset + length x → IfDeep ((title : List ℕ) → Title title h → IsDeep W most title) f → DeepAt (Then (Long body) W) most old new s
+walk_deep W most body old new h at fault.Syntax s x none is t c g d = subst (DeepAt (Then (Long body) W) most old new) (sym is) tt
+walk_deep W most body old new h at fault.Deep s x none is t c g d =
+    subst (DeepAt (Then (Long body) W) most old new) (sym is) (record {
+      bytes = x;
+      has = deep_as (Then (Long body) W) W most x (λ b q. only_rest W b (subst (λ (z : ℕ). Then (Long z) W b) none q)) (λ b w. subst (λ (z : ℕ). Then (Long z) W b) (sym none) (no_body W b w)) (d x t);
+      taken = c;
+      grown = g;
+    })
+walk_deep W most body old new h at fault.Memory s x none is t c g d = subst (DeepAt (Then (Long body) W) most old new) (sym is) tt

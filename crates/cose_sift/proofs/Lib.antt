@@ -1,9 +1,9 @@
 pub mod Going
 pub mod Steps
-pub mod Deep
 pub mod Takes
 pub mod Readable
 pub mod TakenItem
+pub mod Deep
 pub mod ReadItem
 pub mod Untagged
 pub mod Sieve

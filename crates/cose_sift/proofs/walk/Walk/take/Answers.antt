@@ -14,4 +14,4 @@ returns-clause-sound c = on_ok_weaker c.take_item-2.result (λ f s. f (c.in_ok-b
 
 pub returns-clause-deep : goal.returns-clause-deep
 returns-clause-deep c = λ s.
-    deep_weaker c.take_item-2.result (λ f title t. rw c.in_ok-begin.ensures.most at agrees_deep _ _ _ title (c.in_ok-begin.ensures.ok title t) (f title t)) (c.take_item-2.ensures.deep (c.in_ok-begin.ensures.sound s))
+    deep_weaker c.take_item-2.result (λ f title t. agrees_deep _ _ _ title (c.in_ok-begin.ensures.ok title t) (rw c.in_ok-begin.ensures.most at f title t)) (c.take_item-2.ensures.deep (c.in_ok-begin.ensures.sound s))
