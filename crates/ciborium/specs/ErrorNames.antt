@@ -18,9 +18,7 @@ abbrev pub decode_detail : {E : Type 0} → List ℕ → Error E → List ℕ
 decode_detail io (error.Io e) = io
 decode_detail io (error.Syntax at) = codes "(" ++ (decimal at ++ codes ")")
 decode_detail io (error.Semantic at k) = codes "(" ++ (kind_name k ++ codes ")")
-decode_detail io error.RecursionLimitExceeded = codes ""
-decode_detail io error.Memory = codes ""
-decode_detail io error.TooLong = codes ""
+decode_detail io e = codes ""
 
 abbrev pub decode_text : {E : Type 0} → List ℕ → Error E → List ℕ
 decode_text io e = error_name e ++ decode_detail io e

@@ -4,7 +4,7 @@
 use Rattle.std.specs.Prelude.{◌≡◌, ◌≢◌, ℕ, ◌^◌, ◌<◌, List, [], ◌∷◌, ◌++◌, length, Some, None, Bool, true, not, nat_eq, is_some, MatchBool}
 use Rattle.std.specs.Str.{IsUtf8}
 use Rattle.ciborium_ll.specs.declared.hdr.Header.{Header}
-use Rattle.ciborium_ll.specs.declared.hdr.Header.TheVariants.{Positive, Negative, Float, Simple, Tag, Break, Bytes, Text, Array, Map}
+use Rattle.ciborium_ll.specs.declared.hdr.Header.TheVariants.{Float, Simple, Tag, Bytes, Text, Array, Map}
 use Rattle.ciborium_ll.specs.Title.{title_of, FitsHeader}
 use Rattle.ciborium_value.specs.Tree.{Tree, integer, bytes, text, array, map, tag, simple, float, Trees, no_trees, one_more, Pairs, no_pairs, pair_more, tree_count, pair_count}
 use Rattle.ciborium_value.specs.Encoding.{int_head, enc, enc_all, enc_pairs}
@@ -37,33 +37,21 @@ Says answer P = MatchBool answer P (P → ⊥)
 
 -- a header that an encoding may have: none of an open length, and not undefined
 abbrev pub IsEncoded : Header → Type 0
-IsEncoded (Positive n) = Unit {0}
-IsEncoded (Negative n) = Unit {0}
-IsEncoded (Float f) = Unit {0}
 IsEncoded (Simple n) = n ≢ 23
-IsEncoded (Tag n) = Unit {0}
-IsEncoded Break = Unit {0}
-IsEncoded (Bytes (Some n)) = Unit {0}
 IsEncoded (Bytes None) = ⊥
-IsEncoded (Text (Some n)) = Unit {0}
 IsEncoded (Text None) = ⊥
-IsEncoded (Array (Some n)) = Unit {0}
 IsEncoded (Array None) = ⊥
-IsEncoded (Map (Some n)) = Unit {0}
 IsEncoded (Map None) = ⊥
+IsEncoded h = Unit {0}
 
 -- the same as a flag
 abbrev pub encoded : Header → Bool
-encoded (Positive n) = true
-encoded (Negative n) = true
-encoded (Float f) = true
 encoded (Simple n) = not (nat_eq n 23)
-encoded (Tag n) = true
-encoded Break = true
 encoded (Bytes o) = is_some o
 encoded (Text o) = is_some o
 encoded (Array o) = is_some o
 encoded (Map o) = is_some o
+encoded h = true
 
 -- the bytes of a level so far, if it is encoded
 abbrev pub level_enc : Header → Trees → List ℕ
@@ -105,11 +93,9 @@ head_of (simple n) = Simple n
 head_of (float f) = Float f
 
 abbrev pub behind : Tree → List ℕ
-behind (integer i) = []
 behind (bytes b) = b
 behind (text b) = b
 behind (array ts) = enc_all ts
 behind (map ps) = enc_pairs ps
 behind (tag n t) = enc t
-behind (simple n) = []
-behind (float f) = []
+behind t = []

@@ -1,5 +1,5 @@
 -- How much memory a string is held in.
-use Rattle.std.specs.Prelude.{◌≤◌, ℕ, ◌+◌, ◌*◌, List, length, Option, Some, None, Result, Ok, Err}
+use Rattle.std.specs.Prelude.{◌≤◌, ℕ, ◌+◌, ◌*◌, List, length, Option, Some, None, Result, Err}
 use Rattle.ciborium.specs.declared.de.Error.{Error}
 use Rattle.ciborium.specs.declared.de.Error.TheVariants as code
 
@@ -19,10 +19,5 @@ IsFitting (Some n) items capacity = capacity ≤ n
 
 -- P holds at any result but `Memory`
 abbrev pub UnlessMemory : {T E : Type 0} → Result T (Error E) → Type 0 → Type 0
-UnlessMemory (Ok x) P = P
-UnlessMemory (Err (code.Io e)) P = P
-UnlessMemory (Err (code.Syntax p)) P = P
-UnlessMemory (Err (code.Semantic o k)) P = P
-UnlessMemory (Err code.RecursionLimitExceeded) P = P
 UnlessMemory (Err code.Memory) P = Unit {0}
-UnlessMemory (Err code.TooLong) P = P
+UnlessMemory r P = P

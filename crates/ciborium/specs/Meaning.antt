@@ -1,6 +1,6 @@
 -- The value that a tree means, as a tree again, or none (RFC 8949, sections 3.3 and 3.4.3).
 use Rattle.std.specs.Prelude.{ℕ, ◌≤◌, Option, Some, None, if◌then◌else◌, nat_eq, nat_le, ◌&&◌}
-use Rattle.ciborium_value.specs.Tree.{Tree, integer, bytes, text, array, map, tag, simple, float, Trees, no_trees, one_more, Pairs, no_pairs, pair_more}
+use Rattle.ciborium_value.specs.Tree.{Tree, array, map, tag, simple, Trees, no_trees, one_more, Pairs, no_pairs, pair_more}
 use Rattle.ciborium_value.specs.Folding.{fold_by, fold_all_by, fold_pairs_by}
 
 -- false, true and null are themselves, undefined is null, and no other simple value is assigned
@@ -21,14 +21,11 @@ pair_meanings = fold_pairs_by simple_meaning
 -- each simple value in the tree is false, true or null
 abbrev mutual
   pub Assigned : Tree → Type 0
-  Assigned (integer i) = Unit {0}
-  Assigned (bytes b) = Unit {0}
-  Assigned (text b) = Unit {0}
   Assigned (array ts) = AllAssigned ts
   Assigned (map ps) = PairsAssigned ps
   Assigned (tag n t) = Assigned t
   Assigned (simple n) = (20 ≤ n) × (n ≤ 22)
-  Assigned (float f) = Unit {0}
+  Assigned t = Unit {0}
 
   pub AllAssigned : Trees → Type 0
   AllAssigned no_trees = Unit {0}

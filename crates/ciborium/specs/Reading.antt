@@ -2,7 +2,7 @@
 use Rattle.std.specs.Prelude.{◌≡◌, ◌≢◌, ℕ, ◌+◌, ◌-◌, ◌^◌, ◌<◌, ◌≤◌, ◌⊎◌, nat_eq, List, [], ◌∷◌, ◌++◌, length, Option, Some, None, Bool, true, false, Result, Ok, Err, IfErr, IsTrue, if◌then◌else◌}
 use Rattle.std.specs.Str.{IsUtf8}
 use Rattle.ciborium_ll.specs.declared.hdr.Header.{Header}
-use Rattle.ciborium_ll.specs.declared.hdr.Header.TheVariants.{Positive, Negative, Float, Simple, Tag, Break, Bytes, Text, Array, Map}
+use Rattle.ciborium_ll.specs.declared.hdr.Header.TheVariants.{Tag, Break, Bytes, Text, Array, Map}
 use Rattle.ciborium_ll.specs.declared.hdr.Error.{Error as HeadError}
 use Rattle.ciborium_ll.specs.declared.hdr.Error.TheVariants as below
 use Rattle.ciborium_ll.specs.Reading.{Moves, Stops}
@@ -26,11 +26,7 @@ lifted below.Waiting = code.Semantic None kind.WrongType
 
 abbrev pub fault_failures : {E : Type 0} → (E → Bool) → Error E → ℕ → ℕ
 fault_failures ends (code.Io e) n = if ends e then n else n + 1
-fault_failures ends (code.Syntax p) n = n
-fault_failures ends (code.Semantic o k) n = n
-fault_failures ends code.RecursionLimitExceeded n = n
-fault_failures ends code.Memory n = n
-fault_failures ends code.TooLong n = n
+fault_failures ends e n = n
 
 -- how often the reader has failed after this result
 abbrev pub failures : {T E : Type 0} → (E → Bool) → Result T (Error E) → ℕ → ℕ
@@ -53,11 +49,8 @@ IsFar place = 2 ^ 64 ≤ place + 4096
 -- comes only if the place is far, whether the reader tells its bytes or not.
 abbrev pub SomeTaken : {E : Type 0} → Option (List ℕ) → Option (List ℕ) → ℕ → ℕ → Error E → Type 0
 SomeTaken left left' place place' (code.Io e) = Stops left place place' (λ _. Unit {0})
-SomeTaken left left' place place' (code.Syntax p) = Moves left left' place place' (λ _. Unit {0})
-SomeTaken left left' place place' (code.Semantic o k) = Moves left left' place place' (λ _. Unit {0})
-SomeTaken left left' place place' code.RecursionLimitExceeded = Moves left left' place place' (λ _. Unit {0})
-SomeTaken left left' place place' code.Memory = Moves left left' place place' (λ _. Unit {0})
 SomeTaken left left' place place' code.TooLong = Moves left left' place place' (λ _. IsFar place')
+SomeTaken left left' place place' e = Moves left left' place place' (λ _. Unit {0})
 
 -- what a fault leaves of a decoder
 abbrev pub TakesSome : {E : Type 0} → Seen → Seen → Error E → Type 0
@@ -65,21 +58,13 @@ TakesSome old new = SomeTaken old.left new.left old.offset new.offset
 
 -- any fault but being out of memory
 abbrev pub IsNoMemory : {E : Type 0} → Error E → Type 0
-IsNoMemory (code.Io e) = Unit {0}
-IsNoMemory (code.Syntax p) = Unit {0}
-IsNoMemory (code.Semantic o k) = Unit {0}
-IsNoMemory code.RecursionLimitExceeded = Unit {0}
 IsNoMemory code.Memory = ⊥
-IsNoMemory code.TooLong = Unit {0}
+IsNoMemory e = Unit {0}
 
 -- any fault but that offsets grow too long
 abbrev pub IsNotLong : {E : Type 0} → Error E → Type 0
-IsNotLong (code.Io e) = Unit {0}
-IsNotLong (code.Syntax p) = Unit {0}
-IsNotLong (code.Semantic o k) = Unit {0}
-IsNotLong code.RecursionLimitExceeded = Unit {0}
-IsNotLong code.Memory = Unit {0}
 IsNotLong code.TooLong = ⊥
+IsNotLong e = Unit {0}
 
 -- what a fault tells: the fault of the bytes by D, at an end Q too, and that offsets grow too long
 abbrev pub Fails : {E : Type 0} → (E → Bool) → Type 0 → (Fault → Type 0) → Type 0 → Error E → Type 0
@@ -93,20 +78,12 @@ Fails ends Q D long code.TooLong = long
 -- P holds if the error is an end of the bytes
 abbrev pub IfEnd : {E : Type 0} → (E → Bool) → Type 0 → Error E → Type 0
 IfEnd ends P (code.Io e) = IsTrue (ends e) → P
-IfEnd ends P (code.Syntax p) = Unit {0}
-IfEnd ends P (code.Semantic o k) = Unit {0}
-IfEnd ends P code.RecursionLimitExceeded = Unit {0}
-IfEnd ends P code.Memory = Unit {0}
-IfEnd ends P code.TooLong = Unit {0}
+IfEnd ends P e = Unit {0}
 
 -- P holds if there was no memory
 abbrev pub IfMemory : {E : Type 0} → Type 0 → Error E → Type 0
-IfMemory P (code.Io e) = Unit {0}
-IfMemory P (code.Syntax p) = Unit {0}
-IfMemory P (code.Semantic o k) = Unit {0}
-IfMemory P code.RecursionLimitExceeded = Unit {0}
 IfMemory P code.Memory = P
-IfMemory P code.TooLong = Unit {0}
+IfMemory P e = Unit {0}
 
 -- what a call that reads an item, or a part of one, leaves: some bytes were taken if there is a
 -- fault, and of `Memory` those have P; the reader stays the same
@@ -183,16 +160,10 @@ NamesShort ends n old new e =
 
 -- a header that no items follow
 abbrev pub IsLeaf : Header → Type 0
-IsLeaf (Positive n) = Unit {0}
-IsLeaf (Negative n) = Unit {0}
-IsLeaf (Float f) = Unit {0}
-IsLeaf (Simple n) = Unit {0}
 IsLeaf (Tag n) = ⊥
-IsLeaf Break = Unit {0}
-IsLeaf (Bytes o) = Unit {0}
-IsLeaf (Text o) = Unit {0}
 IsLeaf (Array o) = ⊥
 IsLeaf (Map o) = ⊥
+IsLeaf h = Unit {0}
 
 -- the bytes after a title of h
 abbrev pub ReadsAfterTitle : Header → ℕ → Tree → List ℕ → Type 0
@@ -228,12 +199,9 @@ OpensOver n h = ((n ≢ 2) × (n ≢ 3)) ⊎ ((o : Option ℕ) → h ≢ Bytes o
 
 -- out of memory, or the number is too negative
 abbrev pub IsFoldFault : {E : Type 0} → ℕ → Tree → Error E → Type 0
-IsFoldFault n t (code.Io e) = ⊥
-IsFoldFault n t (code.Syntax p) = ⊥
 IsFoldFault n t (code.Semantic o k) = (o ≡ None) × (k ≡ kind.BigNegative) × IsTooNegative n t
-IsFoldFault n t code.RecursionLimitExceeded = ⊥
 IsFoldFault n t code.Memory = Unit {0}
-IsFoldFault n t code.TooLong = ⊥
+IsFoldFault n t e = ⊥
 
 abbrev pub TagDamage : ℕ → ℕ → ℕ → List ℕ → Fault → Type 0
 TagDamage n limit stop b f =

@@ -21,10 +21,7 @@ refusing value.Memory = code.Memory
 abbrev pub IsTypeFault : {E : Type 0} → Bool → Option Kind → Error E → Type 0
 IsTypeFault grows why (code.Semantic o k) = (o ≡ None) × (why ≡ Some k)
 IsTypeFault grows why code.Memory = IsTrue grows
-IsTypeFault grows why (code.Io e) = ⊥
-IsTypeFault grows why (code.Syntax p) = ⊥
-IsTypeFault grows why code.RecursionLimitExceeded = ⊥
-IsTypeFault grows why code.TooLong = ⊥
+IsTypeFault grows why e = ⊥
 
 -- `b` is an item of at most `limit` levels, and x is taken from what it means
 pub record ReadsAs {T : Type 0} (refusal : Tree → Option Kind) (takes : Tree → T → Type 0) (limit : ℕ) (x : T) (b : List ℕ) : Type 0 where
@@ -49,11 +46,8 @@ Gives old new P = (b : List ℕ) × Consumes old new b × P b
 -- bytes.
 abbrev pub LeavesRest : {E : Type 0} → Option (List ℕ) → Option (List ℕ) → Error E → Type 0
 LeavesRest old new (code.Io e) = Unit {0}
-LeavesRest old new (code.Syntax p) = Gives old new (λ _. Unit {0})
-LeavesRest old new (code.Semantic o k) = Gives old new (λ _. Unit {0})
-LeavesRest old new code.RecursionLimitExceeded = Gives old new (λ _. Unit {0})
-LeavesRest old new code.Memory = Gives old new (λ _. Unit {0})
 LeavesRest old new code.TooLong = Gives old new (λ b. IsFar (length b))
+LeavesRest old new e = Gives old new (λ _. Unit {0})
 
 -- the error for the bytes to come: the fault of the item that is due at their front, with places
 -- counted from their beginning, or the type's fault if the item there was taken

@@ -7,7 +7,7 @@ use Rattle.ciborium_ll.specs.Reading.{Starts}
 use Rattle.ciborium_ll.specs.Title.{Begins}
 use Rattle.ciborium_value.specs.Tree.{Tree, is_bytes}
 use Rattle.ciborium.specs.Front.{Reads, Front}
-use Rattle.ciborium.specs.Damage.{end, deep, syntax, semantic, TitleDamage}
+use Rattle.ciborium.specs.Damage.{end, TitleDamage}
 use Rattle.ciborium.specs.Damaged.{Damaged}
 use Rattle.coset_labels.specs.Faults.{CoseFault, fault_of, unexpected}
 use Rattle.cose_gate.specs.declared.fault.StreamFault.{StreamFault}
@@ -20,34 +20,22 @@ use Rattle.cose_gate.specs.Streaming.{WritesAll, Why, damaged, untagged, tagged,
 -- the next title
 abbrev pub TitleFault : ℕ → List ℕ → Why → Type 0
 TitleFault stop b (damaged f) = TitleDamage stop b f
-TitleFault stop b untagged = ⊥
-TitleFault stop b (tagged n) = ⊥
-TitleFault stop b (shape e) = ⊥
-TitleFault stop b without_payload = ⊥
-TitleFault stop b without_length = ⊥
-TitleFault stop b refused = ⊥
+TitleFault stop b e = ⊥
 
 -- the first title
 abbrev pub TagFault : ℕ → List ℕ → Why → Type 0
 TagFault stop b (damaged f) = TitleDamage stop b f
 TagFault stop b untagged = (h : Header) × (rest : List ℕ) × Begins b h rest × ((n : ℕ) → h ≢ Tag n)
 TagFault stop b (tagged n) = (rest : List ℕ) × Begins b (Tag n) rest × (IsSingleTag n → ⊥)
-TagFault stop b (shape e) = ⊥
-TagFault stop b without_payload = ⊥
-TagFault stop b without_length = ⊥
-TagFault stop b refused = ⊥
+TagFault stop b e = ⊥
 
 -- the title of the array
 abbrev pub FourFault : ℕ → List ℕ → Why → Type 0
 FourFault stop b (damaged f) = TitleDamage stop b f
-FourFault stop b untagged = ⊥
-FourFault stop b (tagged n) = ⊥
 FourFault stop b (shape e) =
     (e ≡ unexpected) × ((h : Header) × (rest : List ℕ) × Begins b h rest
     × ((o : Option ℕ) → IsFour o → h ≢ Array o))
-FourFault stop b without_payload = ⊥
-FourFault stop b without_length = ⊥
-FourFault stop b refused = ⊥
+FourFault stop b e = ⊥
 
 abbrev pub NoBreak : List ℕ → Type 0
 NoBreak b = (r : List ℕ) → b ≢ 255 ∷ r
@@ -56,14 +44,11 @@ NoBreak b = (r : List ℕ) → b ≢ 255 ∷ r
 -- is wrong
 abbrev pub PartFault : ℕ → (CoseFault → Tree → Type 0) → ℕ → List ℕ → Why → Type 0
 PartFault limit Wrong stop b (damaged f) = NoBreak b × Damaged stop b limit f
-PartFault limit Wrong stop b untagged = ⊥
-PartFault limit Wrong stop b (tagged n) = ⊥
 PartFault limit Wrong stop b (shape e) =
     ((e ≡ unexpected) × ((r : List ℕ) × (b ≡ 255 ∷ r)))
     ⊎ ((v : Tree) × (rest : List ℕ) × Front b limit v rest × Wrong e v)
-PartFault limit Wrong stop b without_payload = ⊥
-PartFault limit Wrong stop b without_length = ⊥
 PartFault limit Wrong stop b refused = Unit {0}
+PartFault limit Wrong stop b e = ⊥
 
 -- an element that may be any item
 abbrev pub NoneWrong : CoseFault → Tree → Type 0
@@ -83,28 +68,19 @@ WrongPart Wrong e v = Wrong v e
 -- the title of the payload
 abbrev pub SizeFault : ℕ → List ℕ → Why → Type 0
 SizeFault stop b (damaged f) = TitleDamage stop b f
-SizeFault stop b untagged = ⊥
-SizeFault stop b (tagged n) = ⊥
 SizeFault stop b (shape e) =
     (e ≡ unexpected) × ((h : Header) × (rest : List ℕ) × Begins b h rest
     × ((o : Option ℕ) → h ≢ Bytes o) × (h ≢ Simple 22) × (h ≢ Simple 23))
 SizeFault stop b without_payload =
     ((rest : List ℕ) × Begins b (Simple 22) rest) ⊎ ((rest : List ℕ) × Begins b (Simple 23) rest)
 SizeFault stop b without_length = (rest : List ℕ) × Begins b (Bytes None) rest
-SizeFault stop b refused = ⊥
+SizeFault stop b e = ⊥
 
 -- fewer than n bytes are left, or it is out of memory to the judge
 abbrev pub ShortFault : ℕ → List ℕ → Why → Type 0
 ShortFault n b (damaged end) = length b < n
-ShortFault n b (damaged deep) = ⊥
-ShortFault n b (damaged (syntax p)) = ⊥
-ShortFault n b (damaged (semantic k)) = ⊥
-ShortFault n b untagged = ⊥
-ShortFault n b (tagged k) = ⊥
-ShortFault n b (shape e) = ⊥
-ShortFault n b without_payload = ⊥
-ShortFault n b without_length = ⊥
 ShortFault n b refused = Unit {0}
+ShortFault n b e = ⊥
 
 -- the bytes that come next, at most n, were written; or a beginning of them, and then the writer
 -- failed
@@ -119,13 +95,9 @@ pub record CopiedNext {W F : Type 0} (w : Writes W F) (old new : W) (left : Opti
 -- the end of an open array
 abbrev pub CloseFault : ℕ → List ℕ → Why → Type 0
 CloseFault stop b (damaged f) = TitleDamage stop b f
-CloseFault stop b untagged = ⊥
-CloseFault stop b (tagged n) = ⊥
 CloseFault stop b (shape e) =
     (e ≡ unexpected) × ((h : Header) × (rest : List ℕ) × Begins b h rest × (h ≢ Break))
-CloseFault stop b without_payload = ⊥
-CloseFault stop b without_length = ⊥
-CloseFault stop b refused = ⊥
+CloseFault stop b e = ⊥
 
 -- the lengths have grown by those of n bytes that were cut by the space
 abbrev pub Split : ℕ → ℕ → List ℕ → List ℕ → Type 0
@@ -134,12 +106,7 @@ Split n room old new = (pieces : List ℕ) × (new ≡ old ++ pieces) × Cut roo
 -- a fault of shape: an item that was not expected
 abbrev pub IsUnexpected : {E : Type 0} → StreamFault E → Type 0
 IsUnexpected (fault.Shape e) = fault_of e ≡ unexpected
-IsUnexpected (fault.Decode e) = ⊥
-IsUnexpected fault.NotTagged = ⊥
-IsUnexpected (fault.OtherTag n) = ⊥
-IsUnexpected fault.Detached = ⊥
-IsUnexpected fault.Unsized = ⊥
-IsUnexpected fault.Memory = ⊥
+IsUnexpected e = ⊥
 
 -- what a title in the payload's place says
 abbrev pub IsPayload : Header → Payload → Type 0

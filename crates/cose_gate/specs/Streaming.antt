@@ -86,12 +86,8 @@ pub data Why : Type 0 where
 -- a fault of decoding and one of shape never hold being out of memory
 abbrev pub HoldsNoMemory : {E : Type 0} → StreamFault E → Type 0
 HoldsNoMemory (fault.Decode e) = IsNoMemory e
-HoldsNoMemory fault.NotTagged = Unit {0}
-HoldsNoMemory (fault.OtherTag n) = Unit {0}
 HoldsNoMemory (fault.Shape e) = fault_of e ≢ no_memory
-HoldsNoMemory fault.Detached = Unit {0}
-HoldsNoMemory fault.Unsized = Unit {0}
-HoldsNoMemory fault.Memory = Unit {0}
+HoldsNoMemory e = Unit {0}
 
 -- what a fault tells: why, or that offsets grow too long; a failure of the reader tells nothing of
 -- the bytes
@@ -273,17 +269,7 @@ Unstreamed stop b w = UnstreamedBy usual stop b w
 -- how often the reader has failed after this result
 abbrev pub fault_failures : {E : Type 0} → (E → Bool) → StreamFault E → ℕ → ℕ
 fault_failures ends (fault.Decode (de.Io e)) n = if ends e then n else n + 1
-fault_failures ends (fault.Decode (de.Syntax p)) n = n
-fault_failures ends (fault.Decode (de.Semantic o k)) n = n
-fault_failures ends (fault.Decode de.RecursionLimitExceeded) n = n
-fault_failures ends (fault.Decode de.Memory) n = n
-fault_failures ends (fault.Decode de.TooLong) n = n
-fault_failures ends fault.NotTagged n = n
-fault_failures ends (fault.OtherTag k) n = n
-fault_failures ends (fault.Shape e) n = n
-fault_failures ends fault.Detached n = n
-fault_failures ends fault.Unsized n = n
-fault_failures ends fault.Memory n = n
+fault_failures ends e n = n
 
 abbrev pub failures : {T E : Type 0} → (E → Bool) → Result T (StreamFault E) → ℕ → ℕ
 failures ends (Ok x) n = n
@@ -302,17 +288,9 @@ pub record Steady {T E : Type 0} (ends : E → Bool) (answer : Result T (StreamF
 abbrev pub Answered : {E : Type 0} → (E → Bool) → Type 0 → Result Bool (StreamFault E) → Type 0
 Answered ends long (Ok answer) = Unit {0}
 Answered ends long (Err (fault.Decode (de.Io e))) = IsTrue (ends e) → ⊥
-Answered ends long (Err (fault.Decode (de.Syntax p))) = ⊥
-Answered ends long (Err (fault.Decode (de.Semantic o k))) = ⊥
-Answered ends long (Err (fault.Decode de.RecursionLimitExceeded)) = ⊥
-Answered ends long (Err (fault.Decode de.Memory)) = ⊥
 Answered ends long (Err (fault.Decode de.TooLong)) = long
-Answered ends long (Err fault.NotTagged) = ⊥
-Answered ends long (Err (fault.OtherTag n)) = ⊥
-Answered ends long (Err (fault.Shape e)) = ⊥
-Answered ends long (Err fault.Detached) = ⊥
-Answered ends long (Err fault.Unsized) = ⊥
 Answered ends long (Err fault.Memory) = Unit {0}
+Answered ends long e = ⊥
 
 -- if a judged message of a stated length begins, nothing but Ok is due
 abbrev pub AnswersStatedBy : {E : Type 0} → Bounds → (E → Bool) → ℕ → Seen

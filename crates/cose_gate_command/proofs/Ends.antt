@@ -1,6 +1,6 @@
 -- The limits if none are chosen.
 use Rattle.std.proofs.Common.{◌≡◌, ℕ, List, Option, Bool, ap, subst, ◌∙◌}
-use Rattle.cose_gate_core.specs.Findings.{Bounds, excluded_by}
+use Rattle.cose_gate_core.specs.Findings.{Bounds, within}
 use Rattle.cose_gate_core.specs.Questions.{Question}
 use Rattle.cose_gate_core.specs.Terms.{limits_by}
 use Rattle.coset_keys.specs.Fields.{KeyFields}
@@ -12,11 +12,8 @@ use Rattle.coset_labels.specs.declared.limits.Limits.{Limits}
 use Rattle.cose_gate_program.proofs.Runs.{same_devices}
 use Rattle.cose_gate_command.specs.Ends.{bounds_by}
 
-abbrev of : ℕ → ℕ → Bool → Bounds
-of n k strict = record { nesting = n; layers = k; excludes = λ bytes m. excluded_by strict bytes m }
-
 pub usually : (l : Limits) (strict : Bool) → (nesting_of l ≡ nesting) × (layers_of l ≡ layers) → limits_by l strict ≡ bounds_by strict
-usually l strict e = ap (λ (n : ℕ). of n (layers_of l) strict) e.0 ∙ ap (λ (k : ℕ). of nesting k strict) e.1
+usually l strict e = ap (λ (n : ℕ). within n (layers_of l) strict) e.0 ∙ ap (λ (k : ℕ). within nesting k strict) e.1
 
 -- a reader that was lent on is where it was left
 pub lent_on : (limits : Bounds) (allows : List KeyFields → Question → Bool) (keys aad : Option (List ℕ)) (old : Devices) (status : ℕ) (Told : List Notice → Type 0) (l l' w w' : Option (List ℕ)) (n n' f f' : ℕ)

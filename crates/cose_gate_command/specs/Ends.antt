@@ -1,7 +1,7 @@
 -- How the program ends by its arguments.
 use Rattle.std.specs.Prelude.{◌≡◌, ℕ, List, Option, None, Some, Bool, codes}
 use Rattle.ciborium_ll.specs.declared.write.Write.{Ghosts as Writes}
-use Rattle.cose_gate_core.specs.Findings.{Bounds, excluded_by}
+use Rattle.cose_gate_core.specs.Findings.{Bounds, within}
 use Rattle.cose_gate_program.specs.Beginning.{aad_of}
 use Rattle.cose_gate_program.specs.Judge.{says_yes}
 use Rattle.cose_gate_program.specs.Program.{Devices}
@@ -13,11 +13,7 @@ use Rattle.cose_gate_command.specs.RunLines.{Says}
 
 -- the limits if none are chosen, of the gate or of the strict gate
 abbrev pub bounds_by : Bool → Bounds
-bounds_by strict = record {
-  nesting = nesting;
-  layers = layers;
-  excludes = λ bytes m. excluded_by strict bytes m;
-}
+bounds_by strict = within nesting layers strict
 
 -- the arguments say how the program is run over what KEYS holds, which can't be read for this fault
 -- if it holds nothing, and the lines are those of the run; without them its status is that of wrong

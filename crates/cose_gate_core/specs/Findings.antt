@@ -62,10 +62,8 @@ IsCarried m = (p : List ℕ) × (payload_of m ≡ Some p)
 
 -- a COSE_Sign without a signature; the other messages have one signature or tag always
 abbrev pub IsUnsigned : MessageFields → Type 0
-IsUnsigned (sign1 m) = ⊥
-IsUnsigned (mac0 m) = ⊥
 IsUnsigned (sign m) = m.signatures ≡ []
-IsUnsigned (mac m) = ⊥
+IsUnsigned m = ⊥
 
 -- a tagged message that carries its payload, and has a signature or tag
 abbrev pub IsJudged : Bounds → Tree → MessageFields → Type 0

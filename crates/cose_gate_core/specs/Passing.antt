@@ -101,11 +101,7 @@ item_failures (Err fault.Memory) = 0
 -- whether a fault is an end of the bytes
 abbrev pub at_end : {E : Type 0} → (E → Bool) → Error E → Bool
 at_end ends (de.Io e) = ends e
-at_end ends (de.Syntax p) = false
-at_end ends (de.Semantic o k) = false
-at_end ends de.RecursionLimitExceeded = false
-at_end ends de.Memory = false
-at_end ends de.TooLong = false
+at_end ends e = false
 
 -- what stops the gate if no item was read
 abbrev pub fault_by : {E : Type 0} → Error E → GateFault E

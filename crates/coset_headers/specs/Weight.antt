@@ -1,17 +1,15 @@
 -- A number that falls from a value to its parts, and from a byte string to the item that it spells.
 use Rattle.std.specs.Prelude.{ℕ, ◌+◌, length}
-use Rattle.ciborium_value.specs.Tree.{Tree, integer, bytes, text, array, map, tag, simple, float, Trees, no_trees, one_more, Pairs, no_pairs, pair_more}
+use Rattle.ciborium_value.specs.Tree.{Tree, bytes, text, array, map, tag, Trees, no_trees, one_more, Pairs, no_pairs, pair_more}
 
 abbrev mutual
   pub weight : Tree → ℕ
-  weight (integer i) = 1
   weight (bytes b) = 1 + length b
   weight (text b) = 1 + length b
   weight (array ts) = 1 + weight_all ts
   weight (map ps) = 1 + weight_pairs ps
   weight (tag n t) = 1 + weight t
-  weight (simple n) = 1
-  weight (float f) = 1
+  weight t = 1
 
   pub weight_all : Trees → ℕ
   weight_all no_trees = 0

@@ -1,5 +1,6 @@
 //! Lists of a fixed length, as tuples. Nothing is copied.
 ghost use Rattle.std.specs.Prelude.{◌≡◌, ◌≢◌, [], ◌∷◌, length, count_by, MatchOption};
+ghost use Rattle.ciborium_value.specs.View.{view};
 ghost use Rattle.coset_labels.specs.Arrays.{is_structure};
 
 use ciborium_value::Value;
@@ -67,17 +68,17 @@ pub fn five<T: Drop>(items: Vec<T>) -> Option<(T, T, T, T, T)>
 
 /// Whether a value is an array of three items or more: it takes four bytes at least.
 fn is_structure(item: &Value) -> bool
-    ensures { result ≡ is_structure item.now }
+    ensures { result ≡ is_structure (view item.now) }
 {
-    match item {
-        Value::Array(parts) => parts.len() > 2,
-        _ => false,
+    match item.as_array() {
+        Some(parts) => parts.len() > 2,
+        None => false,
     }
 }
 
 /// How many of the items are arrays of three or more: each of them takes four bytes at least.
 pub fn count_structures(items: &[Value]) -> usize
-    ensures { result ≡ count_by is_structure items.now }
+    ensures { result ≡ count_by (λ item. is_structure (view item)) items.now }
 {
     items.iter().filter(|item| is_structure(item)).count()
 }

@@ -102,7 +102,7 @@ impl CoseMac0 {
     ///
     /// # Errors
     /// Those of `from_cbor_value_with`.
-    pub fn fill_four(
+    fn fill_four(
         &mut self,
         alloc: Global,
         parts: PartValues,
@@ -166,14 +166,14 @@ impl CoseMac0 {
             self.old.unprotected elements ts
             → ReadsWithin limits HasMac0 WrongMac0 (array ts) (λ _. mac0_view self.new) result }
     {
-        let tag = elements.fill(
+        let last = elements.fill(
             alloc,
             limits,
             "bstr",
             &mut self.protected,
             &mut self.payload,
         )?;
-        self.tag = tag;
+        self.tag = last;
         Ok(())
     }
 }

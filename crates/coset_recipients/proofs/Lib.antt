@@ -25,4 +25,4 @@ pub mod Steps
 pub mod Unique
 pub mod Writable
 pub mod Written
-pub mod Elements
+pub mod ElementSteps

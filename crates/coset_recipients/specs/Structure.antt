@@ -10,9 +10,7 @@ use Rattle.coset_recipients.specs.Fields.{RecipientFields, recipient}
 abbrev pub IsRecipientContext : EncryptionContext → Type 0
 IsRecipientContext context.CoseEncrypt = ⊥
 IsRecipientContext context.CoseEncrypt0 = ⊥
-IsRecipientContext context.EncRecipient = Unit {0}
-IsRecipientContext context.MacRecipient = Unit {0}
-IsRecipientContext context.RecRecipient = Unit {0}
+IsRecipientContext c = Unit {0}
 
 -- the Enc_structure of a recipient, in a context and under external data; none if its protected
 -- header can't be written

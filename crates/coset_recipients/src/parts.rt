@@ -179,10 +179,10 @@ impl Elements {
             (layers_of limits)) e) }
     {
         let last = self.last.try_as_bytes()?;
-        let carried = self.content.try_as_bytes_or_nil(want)?;
+        let bytes = self.content.try_as_bytes_or_nil(want)?;
         self.unprotected?;
         header.fill_bstr(alloc, self.protected, limits)?;
-        *content = carried;
+        *content = bytes;
         Ok(last)
     }
 }

@@ -102,7 +102,7 @@ impl CoseSign1 {
     ///
     /// # Errors
     /// Those of `from_cbor_value_with`.
-    pub fn fill_four(
+    fn fill_four(
         &mut self,
         alloc: Global,
         parts: PartValues,
@@ -166,14 +166,14 @@ impl CoseSign1 {
             self.old.unprotected elements ts
             → ReadsWithin limits HasSign1 WrongSign1 (array ts) (λ _. sign1_view self.new) result }
     {
-        let signature = elements.fill(
+        let last = elements.fill(
             alloc,
             limits,
             "bstr or nil",
             &mut self.protected,
             &mut self.payload,
         )?;
-        self.signature = signature;
+        self.signature = last;
         Ok(())
     }
 }

@@ -3,7 +3,7 @@ use Rattle.ciborium_ll.specs.Views.{seen}
 use Rattle.ciborium_value.specs.Tree.{no_trees, one_more}
 use Rattle.ciborium_value.specs.View.{view}
 use Rattle.ciborium.proofs.FrontLemmas.{none_read, more_read, four_stops, four_all}
-use Rattle.coset_recipients.proofs.Elements.{second_taken}
+use Rattle.coset_recipients.proofs.ElementSteps.{second_taken}
 use Rattle.coset_recipients.proofs.parts.Elements.take.Goals as goal
 
 pub returns-in_err-protected-clause-read : goal.returns-in_err-protected-clause-read
