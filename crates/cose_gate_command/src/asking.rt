@@ -1,5 +1,5 @@
 //! The run of `cose-ask`.
-ghost use Rattle.std.specs.Prelude.{◌≡◌, false, is_ok, map, string_bytes};
+ghost use Rattle.std.specs.Prelude.{◌≡◌, [], OnOk, false, is_ok, map, string_bytes};
 ghost use Rattle.cose_gate_command.specs.Arguments as spec;
 ghost use Rattle.cose_gate_command.specs.Asking.{Asks, Asked, or_status, reading};
 ghost use Rattle.cose_gate_command.specs.Waiting.{last_line};
@@ -36,6 +36,7 @@ pub fn ask<R: Read, W: Write, E: Write>(
         out.old out.new err.old err.new result }
     ensures kept { R.handle input.new ≡ R.handle input.old }
     ensures lent { W.handle out.new ≡ W.handle out.old }
+    ensures handed { W.held out.old ≡ [] → OnOk result (W.held out.new ≡ []) }
 {
     let Some(arguments) = ask_arguments(words) else {
         return Err(NotRun::Usage);
@@ -59,6 +60,7 @@ fn ask_by<R: Read, W: Write, E: Write>(
         out.old out.new err.old err.new result }
     ensures kept { R.handle input.new ≡ R.handle input.old }
     ensures lent { W.handle out.new ≡ W.handle out.old }
+    ensures handed { W.held out.old ≡ [] → OnOk result (W.held out.new ≡ []) }
 {
     let mut begun = Begun::new(alloc);
     let mut told = Log::new();

@@ -1,5 +1,5 @@
 //! The run of `cose-pass`.
-ghost use Rattle.std.specs.Prelude.{◌≡◌, map, option_map, string_bytes};
+ghost use Rattle.std.specs.Prelude.{◌≡◌, ◌<◌, [], IfOk, map, option_map, string_bytes};
 ghost use Rattle.cose_gate_core.specs.Terms.{limits_of};
 ghost use Rattle.cose_gate_command.specs.Arguments as spec;
 ghost use Rattle.cose_gate_command.specs.Passing.{Passed, Passes};
@@ -34,6 +34,7 @@ pub fn pass<R: Read, W: Write, E: Write>(
         (devices_of R.Read W.Write input.new out.new) err.old err.new result }
     ensures kept { R.handle input.new ≡ R.handle input.old }
     ensures lent { W.handle out.new ≡ W.handle out.old }
+    ensures handed { IfOk result (λ status. status < 2 → W.held out.new ≡ []) }
 {
     let Some(arguments) = pass_arguments(words) else {
         return Err(NotRun::Usage);
@@ -61,6 +62,7 @@ fn pass_by<R: Read, W: Write, E: Write>(
         (devices_of R.Read W.Write input.new out.new) err.old err.new result }
     ensures kept { R.handle input.new ≡ R.handle input.old }
     ensures lent { W.handle out.new ≡ W.handle out.old }
+    ensures handed { IfOk result (λ status. status < 2 → W.held out.new ≡ []) }
 {
     let Ok(judge) = Accepted::new(alloc, records) else {
         return Err(NotRun::Memory);

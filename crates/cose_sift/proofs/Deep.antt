@@ -110,7 +110,6 @@ deep_weaker (Err fault.Syntax) f h = tt
 deep_weaker (Err fault.Deep) f h = f h
 deep_weaker (Err fault.Memory) f h = tt
 
-
 pub over_due : {T A P : Type 0} (r : Result T Fault) → (A → P) → OnErr r A → IfErr r (IfDeep P)
 over_due (Ok x) f h = tt
 over_due (Err fault.Syntax) f h = tt

@@ -6,7 +6,7 @@ use Rattle.cose_gate_program.proofs.Tellings.{ran_as}
 use Rattle.cose_gate_command.specs.Asking.{IsStatus}
 use Rattle.cose_gate_command.specs.Written.{parts_in}
 use Rattle.cose_gate_command.specs.declared.not_run.NotRun.{NotRun}
-use Rattle.cose_gate_command.proofs.Arriving.{all_arrived, handed_as, is_status, same_handle, told_name}
+use Rattle.cose_gate_command.proofs.Arriving.{all_arrived, all_handed, handed_as, handed_by, is_status, same_handle, told_name}
 use Rattle.cose_gate_command.proofs.Endings.{last_written, waited, writer_kept}
 use Rattle.cose_gate_command.proofs.asking.ask_by.Goals as goal
 
@@ -45,3 +45,15 @@ returns-clause-lent g c =
     same_handle g.W.Write _ _ _ w.written _ _
     (all_arrived g.W.Write v.out.ghost_name w.out.ghost_name v.was.items w.was.items v.form w.form (map parts_in v.told.now.items) (map parts_in w.told.now.items) qs ran.asked
     _ _ w.was w.written w.sent w.told.now c.args.form c.new-writer.ensures.was (ap (map parts_in) c.new-writer.ensures.told) refl refl c.new-writer.ensures.form (search (rules, w.are_out)))
+
+pub returns-clause-handed : goal.returns-clause-handed
+returns-clause-handed g c =
+    let v = c.new-writer.result in
+    let w = c.run_told-status.new.judge in
+    let ran = c.run_told-status.ensures.ran in
+    let qs = asked_in (λ (q : Question). true) c.args.run.aad.now ran.run in
+    let name : w.out.ghost_name ≡ _ = told_name g.W.Write v.out.ghost_name w.out.ghost_name v.was.items w.was.items v.form w.form
+    (map parts_in v.told.now.items) (map parts_in w.told.now.items) qs ran.asked ∙ c.new-writer.ensures.kept in
+    handed_by g.W.Write _ _ c.run_told-status.result w.written _ c.finish.ensures.status
+    (all_handed g.W.Write v.out.ghost_name w.out.ghost_name v.was.items w.was.items v.form w.form (map parts_in v.told.now.items) (map parts_in w.told.now.items) qs ran.asked
+    _ _ w.was.items w.written c.new-writer.ensures.was refl (search (rules, w.handed)))

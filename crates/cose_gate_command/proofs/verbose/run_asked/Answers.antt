@@ -1,7 +1,7 @@
 use Rattle.std.proofs.Common.{refl, rules, ◌≡◌, ◌∷◌, ◌++◌, [], ◌∙◌}
 use Rattle.std.specs.Prelude.{option_copied}
 use Rattle.cose_gate_program.specs.Telling.{not_begun}
-use Rattle.cose_gate_program.proofs.Tellings.{began, ran_as}
+use Rattle.cose_gate_program.proofs.Tellings.{began, not_ended, ran_as}
 use Rattle.cose_gate_command.specs.RunLines.{SaysSince}
 use Rattle.cose_gate_command.proofs.RunLines.{said_all, same_writer}
 use Rattle.cose_gate_command.proofs.Ends.{lent_on}
@@ -23,3 +23,6 @@ returns-in-Ok-clause-ran g c =
 
 pub returns-clause-ran : goal.returns-clause-ran
 returns-clause-ran g c = not_begun c.in-Err.why c.in-Err.ensures c.end_unbegun.ensures.status refl c.end_unbegun.ensures.said
+
+pub returns-clause-handed : goal.returns-clause-handed
+returns-clause-handed g c = not_ended _ c.in-Err.why _ c.end_unbegun.ensures.status
