@@ -182,10 +182,10 @@ fn stopped<W: Write>(end: Result<Counts, Halt>, out: &mut W) -> Result<Counts, H
     let Err(halt) = end else {
         return end;
     };
-    match out.flush() {
-        Ok(()) => Err(halt),
-        Err(_) => Err(Halt::Write),
+    if out.flush().is_err() {
+        return Err(Halt::Write);
     }
+    Err(halt)
 }
 
 /// `sift`, and then the last line. The status is 0 if no item was left out, 1 if some were, and 4
