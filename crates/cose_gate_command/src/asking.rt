@@ -4,7 +4,7 @@ ghost use Rattle.cose_gate_command.specs.Arguments as spec;
 ghost use Rattle.cose_gate_command.specs.Asking.{Asks, Asked, or_status, reading};
 ghost use Rattle.cose_gate_command.specs.Waiting.{last_line};
 ghost use Rattle.cose_gate_core.specs.Terms.{limits_of};
-ghost use Rattle.cose_gate_program.specs.Writing.{Wrote};
+ghost use Rattle.cose_gate_program.specs.Writing.{Wrote, HandedOn};
 
 use crate::ending::{Ending, end};
 use crate::not_run::NotRun;
@@ -37,6 +37,7 @@ pub fn ask<R: Read, W: Write, E: Write>(
     ensures kept { R.handle input.new ≡ R.handle input.old }
     ensures lent { W.handle out.new ≡ W.handle out.old }
     ensures handed { W.held out.old ≡ [] → OnOk result (W.held out.new ≡ []) }
+    ensures lines { OnOk result (HandedOn E.Write err.old err.new) }
 {
     let Some(arguments) = ask_arguments(words) else {
         return Err(NotRun::Usage);
@@ -61,6 +62,7 @@ fn ask_by<R: Read, W: Write, E: Write>(
     ensures kept { R.handle input.new ≡ R.handle input.old }
     ensures lent { W.handle out.new ≡ W.handle out.old }
     ensures handed { W.held out.old ≡ [] → OnOk result (W.held out.new ≡ []) }
+    ensures lines { OnOk result (HandedOn E.Write err.old err.new) }
 {
     let mut begun = Begun::new(alloc);
     let mut told = Log::new();
@@ -89,6 +91,7 @@ fn finish<E: Write>(
 ) -> Result<u8, NotRun>
     ensures status { result ≡ or_status status written }
     ensures lines { Wrote E.Write err.old err.new (last_line (is_ok result) last.now) }
+    ensures handed { HandedOn E.Write err.old err.new }
 {
     end(written.is_ok(), last, err);
     match written {

@@ -3,6 +3,7 @@ ghost use Rattle.std.specs.Prelude.{◌≡◌, ◌<◌, [], map, option_copied, 
 ghost use Rattle.cose_gate_command.specs.Arguments as spec;
 ghost use Rattle.cose_gate_command.specs.Ends.{EndsBy};
 ghost use Rattle.cose_gate_program.specs.Program.{devices_of};
+ghost use Rattle.cose_gate_program.specs.Writing.{HandedOn};
 
 use crate::arguments::read_arguments;
 use crate::key_file::KeyFile;
@@ -34,6 +35,7 @@ pub fn program<'a, R: Read, W: Write, E: Write>(
     ensures kept { R.handle input.new ≡ R.handle input.old }
     ensures lent { W.handle out.new ≡ W.handle out.old }
     ensures handed { result < 2 → W.held out.new ≡ [] }
+    ensures lines { result < 2 → HandedOn E.Write err.old err.new }
 {
     let Some(asked) = read_arguments(all) else {
         let _ = err.write_all(USAGE.as_bytes());

@@ -4,6 +4,7 @@ ghost use Rattle.cose_gate_program.specs.Beginning.{aad_of, status_of};
 ghost use Rattle.cose_gate_program.specs.Judge.{says_yes};
 ghost use Rattle.cose_gate_program.specs.Program.{devices_of};
 ghost use Rattle.cose_gate_program.specs.Telling.{EndsTold};
+ghost use Rattle.cose_gate_program.specs.Writing.{HandedOn};
 ghost use Rattle.cose_gate_program.specs.declared.telling.Notice.TheVariants as notice;
 ghost use Rattle.cose_gate_command.specs.Ends.{bounds_by};
 ghost use Rattle.cose_gate_command.specs.RunLines.{Says};
@@ -65,6 +66,7 @@ pub(crate) fn run_asked<'f, 'd, R: Read, W: Write, E: Write>(
     ensures kept { R.handle input.new ≡ R.handle input.old }
     ensures lent { W.handle out.new ≡ W.handle out.old }
     ensures handed { result < 2 → W.held out.new ≡ [] }
+    ensures lines { result < 2 → HandedOn E.Write err.old err.new }
 {
     let note = RefCell::new(Note::new(alloc, asked.verbose));
     let taken = Cell::new(0);

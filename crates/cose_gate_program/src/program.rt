@@ -7,6 +7,7 @@ ghost use Rattle.cose_gate_program.specs.Judge.{says_yes};
 ghost use Rattle.cose_gate_program.specs.Program.{devices_of, hears};
 ghost use Rattle.cose_gate_program.specs.Telling as spec;
 ghost use Rattle.cose_gate_program.specs.Telling.{Gated, RanTold, EndsTold, tells, writes};
+ghost use Rattle.cose_gate_program.specs.Writing.{HandedOn};
 
 use crate::beginning::{begin, read_keys};
 use crate::devices::{Input, InputFault, Output};
@@ -76,6 +77,7 @@ pub fn run_judged<R: Read, W: Write, E: Write, J: Judge>(
     ensures kept { R.handle input.new ≡ R.handle input.old }
     ensures lent { W.handle out.new ≡ W.handle out.old }
     ensures handed { result < 2 → W.held out.new ≡ [] }
+    ensures lines { HandedOn E.Write err.old err.new }
 {
     let mut told = Log::new();
     let mut lines = Lines::new(err, &mut told);
@@ -149,6 +151,7 @@ pub fn run_over<R: Read, W: Write, E: Write>(
     ensures kept { R.handle input.new ≡ R.handle input.old }
     ensures lent { W.handle out.new ≡ W.handle out.old }
     ensures handed { result < 2 → W.held out.new ≡ [] }
+    ensures lines { HandedOn E.Write err.old err.new }
 {
     let mut told = Log::new();
     let mut lines = Lines::new(err, &mut told);
@@ -204,6 +207,7 @@ pub fn run_with<R: Read, W: Write, E: Write>(
     ensures kept { R.handle input.new ≡ R.handle input.old }
     ensures lent { W.handle out.new ≡ W.handle out.old }
     ensures handed { result < 2 → W.held out.new ≡ [] }
+    ensures lines { HandedOn E.Write err.old err.new }
 {
     match begin(alloc, keys, aad) {
         Ok(beginning) => {
@@ -251,6 +255,7 @@ pub fn run<R: Read, W: Write, E: Write>(
     ensures kept { R.handle input.new ≡ R.handle input.old }
     ensures lent { W.handle out.new ≡ W.handle out.old }
     ensures handed { result < 2 → W.held out.new ≡ [] }
+    ensures lines { HandedOn E.Write err.old err.new }
 {
     let terms = Terms {
         limits: Limits::default(),
