@@ -51,6 +51,10 @@ abbrev pub Adds : {W F : Type 0} → Writes W F → Bool → W → W → Type 0
 Adds w true old new = (said : List ℕ) × AreIndented said × Wrote w old new said
 Adds w false old new = Wrote w old new []
 
+-- a writer that holds nothing back goes on to hold nothing back, unless it has failed
+abbrev pub StaysHandedOn : {W F : Type 0} → Writes W F → W → W → Type 0
+StaysHandedOn w old new = w.failed new ≡ w.failed old → w.held old ≡ [] → w.held new ≡ []
+
 -- the lines of these notices, in order, among lines that begin with two blanks
 pub data Among : Bool → List Notice → List ℕ → Type 0 where
   nothing : {quiet : Bool} → Among quiet [] []
