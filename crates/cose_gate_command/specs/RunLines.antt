@@ -19,9 +19,7 @@ has_passed (Refused r) = false
 -- a notice without a line: with --quiet that of an item that passed
 abbrev pub is_silent : Bool → Notice → Bool
 is_silent quiet (notice.Item e) = quiet && has_passed e.verdict
-is_silent quiet (notice.Counts c) = false
-is_silent quiet (notice.Stopped f) = false
-is_silent quiet (notice.NotBegun why) = false
+is_silent quiet n = false
 
 -- the line of a notice, if it has one
 abbrev pub shown : Bool → Notice → List ℕ

@@ -58,7 +58,9 @@ pub(crate) fn end<W: Write>(is_so: bool, last: &Option<Notice>, out: &mut W)
 fn write_last<W: Write>(is_so: bool, last: &Option<Notice>, out: &mut W)
     ensures { Wrote W.Write out.old out.new (last_line is_so last.now) }
 {
-    if let Some(last) = last && is_so {
+    if let Some(last) = last
+        && is_so
+    {
         write_notice(last, out);
     }
 }

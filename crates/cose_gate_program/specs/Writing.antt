@@ -50,9 +50,7 @@ HandedOn w old new = w.failed new ≡ w.failed old → w.held new ≡ []
 -- a notice that is the last of a run
 abbrev pub is_last : Notice → Bool
 is_last (notice.Item e) = false
-is_last (notice.Counts c) = true
-is_last (notice.Stopped f) = true
-is_last (notice.NotBegun why) = true
+is_last e = true
 
 abbrev pub is_over : List Notice → Bool
 is_over [] = false
