@@ -12,7 +12,7 @@ use Rattle.cose_gate_core.specs.declared.gating.GateFault.{GateFault}
 use Rattle.coset_keys.specs.Fields.{KeyFields}
 use Rattle.cose_gate_program.specs.Lines.{line_of}
 use Rattle.cose_gate_program.specs.Program.{Devices}
-use Rattle.cose_gate_program.specs.Telling.{items_of, last_of, RanTold, EndsTold, not_begun, after_run}
+use Rattle.cose_gate_program.specs.Telling.{items_of, last_of, RanTold, EndsTold, not_begun, after_run, told_in}
 use Rattle.cose_gate_program.specs.Writing.{Wrote, WroteSince, HandedOn, HandedSince, LentLines, is_last, is_over}
 use Rattle.cose_gate_program.specs.declared.devices.InputFault.{InputFault}
 use Rattle.cose_gate_program.specs.declared.telling.Notice.{Notice}
@@ -76,7 +76,11 @@ module _ {W F : Type 0} (w : Writes W F) where
   ends_handed s s' first now (not_begun why n st same told) begun none handed = handed_all s s' [] (NotBegun why) first now told begun none refl handed
   ends_handed s s' first now (after_run b d k a ks has r) begun none handed = ran_handed s s' first now r begun none handed
 
+pub ran_name : {W : Type 0} {limits : Bounds} {allows : Question → Bool} {aad : List ℕ} {old new : Devices} {status : ℕ} {A : List Question → Type 0} (s s' : LentLines W)
+    → RanTold limits allows aad old new status A (λ ns. s' ≡ folded_over speaks s ns) → s'.name ≡ s.name
+ran_name {allows = allows} {aad = aad} s s' r = same_writer s s' (told_in allows aad r.run r.flushed) r.told
+
 pub ends_name : {W : Type 0} {limits : Bounds} {allows : List KeyFields → Question → Bool} {keys aad : Option (List ℕ)} {old new : Devices} {status : ℕ} (s s' : LentLines W)
     → EndsTold limits allows keys aad old new status (λ ns. s' ≡ folded_over speaks s ns) → s'.name ≡ s.name
 ends_name s s' (not_begun why n st same told) = same_writer s s' (NotBegun why ∷ []) told
-ends_name s s' (after_run b d k a ks has r) = same_writer s s' _ r.told
+ends_name s s' (after_run b d k a ks has r) = ran_name s s' r
