@@ -76,7 +76,10 @@ pub fn write_in_blocks<W: io::Write + Drop>(
 ///
 /// # Errors
 /// `Memory`.
-pub fn hand_on_in_blocks<W: io::Write>(alloc: Global, writer: W) -> Result<OutBlocks<W>, NotRun>
+pub fn hand_on_in_blocks<W: io::Write + Drop>(
+    alloc: Global,
+    writer: W,
+) -> Result<OutBlocks<W>, NotRun>
     ensures { IfOk result (λ out. out_blocks_held out ≡ []) }
 {
     match Vec::with_capacity(alloc, BLOCK) {
