@@ -13,10 +13,11 @@ use Rattle.cose_gate_program.specs.Lines.{line_of, lines_of}
 use Rattle.cose_gate_core.specs.GateRun.{result_of}
 use Rattle.cose_gate_program.specs.Program.{Devices}
 use Rattle.cose_gate_program.specs.Telling.{RanTold, last_of, told_in}
-use Rattle.cose_gate_program.specs.Writing.{Wrote, WroteSince}
+use Rattle.cose_gate_program.specs.Writing.{Wrote, WroteSince, HandedOn}
 use Rattle.cose_gate_program.specs.declared.devices.InputFault.{InputFault}
 use Rattle.cose_gate_program.specs.declared.telling.Notice.{Notice}
 use Rattle.cose_gate_program.specs.declared.telling.Notice.TheVariants.{Item}
+use Rattle.cose_gate_program.proofs.Handed.{handed_after}
 use Rattle.cose_gate_program.proofs.Tellings.{folded_then}
 use Rattle.cose_gate_program.proofs.Written.{wrote_then}
 use Rattle.cose_gate_command.specs.Asking.{item_line, item_lines, lines_if}
@@ -118,6 +119,12 @@ waited {allows = allows} {aad = aad} w s s' first now last r begun none spoke is
       (items, n, refl, is ∙ ap (λ (z : Waiting _). z.last) e, only_items es n (no_item (result_of allows aad r.run) r.flushed), wrote);
   status_is = r.status_is;
 }
+
+-- after its last line nothing is held back
+pub held_lines : {limits : Bounds} {allows : Question → Bool} {aad : List ℕ} {old new : Devices} {status : ℕ} {A : List Question → Type 0} {W F : Type 0}
+    (w : Writes W F) (first mid err' : W) (so : Bool) (last : Option Notice)
+    → Wrote w mid err' (last_line so last) → HandedOn w mid err' → RanTold limits allows aad old new status A (Held w first mid last) → HandedOn w first err'
+held_lines w first mid err' so last wrote handed ran = handed_after w first mid err' ran.told.5.1.0 wrote.1.0 handed
 
 -- writer and place are the same
 pub writer_kept : {limits : Bounds} {allows : Question → Bool} {aad : List ℕ} {old new : Devices} {status : ℕ} {A : List Question → Type 0} {W : Type 0}

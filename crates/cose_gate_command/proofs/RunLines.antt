@@ -5,7 +5,7 @@ use Rattle.std.specs.Io.KnownBytes.{Appends}
 use Rattle.std.proofs.lemmas.Grind.{flat_map-append}
 use Rattle.std.proofs.lemmas.Bool.{true≢false}
 use Rattle.std.specs.Coded.{le_prop}
-use mathlib.Core.Logic.{∥∥₁_map, ∥∥₁_rec}
+use mathlib.Core.Logic.{∥∥₁_map}
 use Rattle.ciborium_ll.specs.declared.write.Write.{Ghosts as Writes}
 use Rattle.cose_gate_core.specs.Asked.{folded_over}
 use Rattle.cose_gate_core.specs.Findings.{Bounds}
@@ -130,10 +130,10 @@ not_silent quiet (notice.Stopped f) s l = true≢false (sym s)
 not_silent quiet (notice.NotBegun why) s l = true≢false (sym s)
 
 -- how often the writer had failed at first
-fails_since : {W F : Type 0} (w : Writes W F) (verbose quiet : Bool) (first : W) (more : List W) (now : W) (told : List Notice) → SaysSince w verbose quiet (first ∷ more) now told
+fails_since : {W F : Type 0} (w : Writes W F) (verbose quiet : Bool) (first : W) (later : List W) (now : W) (told : List Notice) → SaysSince w verbose quiet (first ∷ later) now told
     → w.failed first ≤ w.failed now
-fails_since w true quiet first more now told says = ∥∥₁_rec le_prop (λ s. s.2.1.0) says
-fails_since w false quiet first more now told says = says.1.0
+fails_since w true quiet first later now told so = ∥∥₁_rec le_prop (λ s. s.2.1.0) so
+fails_since w false quiet first later now told so = so.1.0
 
 fails_more : {W F : Type 0} (w : Writes W F) (verbose : Bool) (old new : W) → Adds w verbose old new → w.failed old ≤ w.failed new
 fails_more w true old new adds = adds.2.1.0
@@ -146,15 +146,20 @@ same_both a b c d p q r e = (omega (arith, p, q, r, e), omega (arith, p, q, r, e
 pub handed_line : {W F : Type 0} (w : Writes W F) (verbose quiet : Bool) (was : List W) (old mid new : W) (told : List Notice) (n : Notice)
     → SaysSince w verbose quiet was old told → Wrote w old mid (shown quiet n) → (is_last n ≡ true → HandedOn w old mid) → Adds w verbose mid new → StaysHandedOn w mid new
     → HandedSince w was new (told ++ n ∷ [])
-handed_line w verbose quiet [] old mid new told n says wrote last adds stays = tt
-handed_line w verbose quiet (first ∷ more) old mid new told n says wrote last adds stays = λ over steady.
-    let s = same_both (w.failed first) (w.failed old) (w.failed mid) (w.failed new) (fails_since w verbose quiet first more old told says) wrote.1.0 (fails_more w verbose mid new adds) steady in
+handed_line w verbose quiet [] old mid new told n so wrote last adds stays = tt
+handed_line w verbose quiet (first ∷ later) old mid new told n so wrote last adds stays = λ over steady.
+    let s = same_both (w.failed first) (w.failed old) (w.failed mid) (w.failed new) (fails_since w verbose quiet first later old told so) wrote.1.0 (fails_more w verbose mid new adds) steady in
     stays s.1 (last (sym (over_by_last told n) ∙ over) s.0)
 
 pub handed_rest : {W F : Type 0} (w : Writes W F) (verbose quiet : Bool) (was : List W) (old new : W) (told : List Notice)
     → SaysSince w verbose quiet was old told → Wrote w old new [] → HandedOn w old new → HandedSince w was new told
-handed_rest w verbose quiet [] old new told says wrote handed = tt
-handed_rest w verbose quiet (first ∷ more) old new told says wrote handed = λ over. handed_after w first old new (fails_since w verbose quiet first more old told says) wrote.1.0 handed
+handed_rest w verbose quiet [] old new told so wrote handed = tt
+handed_rest w verbose quiet (first ∷ later) old new told so wrote handed = λ over. handed_after w first old new (fails_since w verbose quiet first later old told so) wrote.1.0 handed
+
+-- a run's lines are on one writer
+pub ran_on : {limits : Bounds} {allows : Question → Bool} {aad : List ℕ} {old new : Devices} {status : ℕ} {A : List Question → Type 0} {W : Type 0} (s s' : LineLog W)
+    → RanTold limits allows aad old new status A (λ ns. s' ≡ folded_over says s ns) → s'.name ≡ s.name
+ran_on {allows = allows} {aad = aad} s s' r = same_writer s s' (items_of r.run.done ++ last_of (result_of allows aad r.run) r.flushed ∷ []) r.told
 
 -- and at the end of a run
 pub handed_said : {limits : Bounds} {allows : Question → Bool} {aad : List ℕ} {old new : Devices} {status : ℕ} {A : List Question → Type 0} {W F : Type 0} (w : Writes W F) (s s' : LineLog W) (first now : W)

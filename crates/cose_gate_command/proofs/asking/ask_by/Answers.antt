@@ -2,13 +2,12 @@ use Rattle.std.proofs.Common.{rules, ◌≡◌, ℕ, ◌∷◌, ◌++◌, [], re
 use Rattle.std.specs.Prelude.{Result, is_ok}
 use Rattle.cose_gate_core.specs.Questions.{Question}
 use Rattle.cose_gate_core.specs.GateRun.{asked_in}
-use Rattle.cose_gate_program.proofs.Handed.{handed_after}
 use Rattle.cose_gate_program.proofs.Tellings.{ran_as}
 use Rattle.cose_gate_command.specs.Asking.{IsStatus}
 use Rattle.cose_gate_command.specs.Written.{parts_in}
 use Rattle.cose_gate_command.specs.declared.not_run.NotRun.{NotRun}
 use Rattle.cose_gate_command.proofs.Arriving.{all_arrived, all_handed, at_ok, handed_as, handed_by, is_status, same_handle, told_name}
-use Rattle.cose_gate_command.proofs.Endings.{last_written, waited, writer_kept}
+use Rattle.cose_gate_command.proofs.Endings.{held_lines, last_written, waited, writer_kept}
 use Rattle.cose_gate_command.proofs.asking.ask_by.Goals as goal
 
 pub returns-clause-ran : goal.returns-clause-ran
@@ -65,6 +64,5 @@ returns-clause-lines g c =
     let kept = writer_kept _ _ c.run_told-status.ensures.ran in
     let name : ending.out.ghost_name ≡ _ = kept.0 ∙ c.new-ending.ensures.kept in
     let place : ending.last.ghost_name ≡ _ = kept.1 ∙ c.new-ending.ensures.place in
-    let ran = waited g.E.Write _ _ _ _ _ c.run_told-status.ensures.ran c.new-ending.ensures.begun c.new-ending.ensures.said
-    (search (rules, ending.spoke)) (search rules) in
-    at_ok c.finish.result _ (handed_after g.E.Write _ _ _ ran.told.5.1.0 c.finish.ensures.lines.1.0 c.finish.ensures.handed)
+    at_ok c.finish.result _ (held_lines g.E.Write _ _ _ (is_ok c.finish.result) _ c.finish.ensures.lines c.finish.ensures.handed
+    (waited g.E.Write _ _ _ _ _ c.run_told-status.ensures.ran c.new-ending.ensures.begun c.new-ending.ensures.said (search (rules, ending.spoke)) (search rules)))

@@ -3,7 +3,7 @@ use Rattle.std.specs.Prelude.{option_copied}
 use Rattle.cose_gate_program.specs.Telling.{not_begun}
 use Rattle.cose_gate_program.proofs.Tellings.{began, not_ended, ran_as}
 use Rattle.cose_gate_command.specs.RunLines.{SaysSince}
-use Rattle.cose_gate_command.proofs.RunLines.{said_all, same_writer, handed_said}
+use Rattle.cose_gate_command.proofs.RunLines.{said_all, same_writer, ran_on, handed_said}
 use Rattle.cose_gate_command.proofs.Ends.{lent_on}
 use Rattle.cose_gate_command.proofs.KeyReasons.{plain_run}
 use Rattle.cose_gate_command.proofs.verbose.run_asked.Goals as goal
@@ -31,7 +31,7 @@ pub returns-in-Ok-clause-lines : goal.returns-in-Ok-clause-lines
 returns-in-Ok-clause-lines g c = λ less.
     let ran = c.run_told.ensures.ran in
     let said = c.run_told.new.teller in
-    let name : said.out.ghost_name ≡ _ = same_writer _ _ _ ran.told ∙ c.new-teller.ensures.kept in
+    let name : said.out.ghost_name ≡ _ = ran_on _ _ ran ∙ c.new-teller.ensures.kept in
     handed_said g.E.Write _ _ _ _ ran c.new-teller.ensures.was c.new-teller.ensures.told (search (rules, said.handed))
 
 pub returns-clause-lines : goal.returns-clause-lines
