@@ -16,7 +16,7 @@ use Rattle.coset_headers.specs.View.{entry_view}
 use Rattle.coset_keys.specs.View.{key_view}
 use Rattle.coset_keys.specs.declared.key.CoseKey.{CoseKey}
 use Rattle.cose_rules.specs.Labels.{same_label, value_under, value_at}
-use Rattle.cose_rules.specs.Keys.{integer_of, curve_in, is_entry, permits, part_fault, has_id, key_fault}
+use Rattle.cose_rules.specs.Keys.{integer_of, curve_in, bytes_of, bytes_at, is_entry, permits, part_fault, has_id, key_fault}
 use Rattle.cose_rules.specs.Rule.{first_fault}
 use Rattle.cose_rules.specs.declared.algorithms.Scheme.{Scheme}
 use Rattle.cose_rules.specs.declared.keys.KeyFault.{KeyFault}
@@ -52,6 +52,9 @@ value_by es l r e = ap (λ z. option_map entry_value z) e ∙ found_value l es
 pub curve_by : (es : List (LabelFields × Tree)) (o : Option Tree) (r : Option ℤ) → r ≡ option_and_then integer_of o → o ≡ value_at (neg 1) es → r ≡ curve_in es
 curve_by es o r e f = e ∙ ap (λ z. option_and_then integer_of z) f
 
+pub bytes_by : (i : ℤ) (es : List (LabelFields × Tree)) (o : Option Tree) (r : Option (List ℕ)) → r ≡ option_and_then bytes_of o → o ≡ value_at i es → r ≡ bytes_at i es
+bytes_by i es o r e f = e ∙ ap (λ z. option_and_then bytes_of z) f
+
 integer_none : (t : Tree) → is_integer t ≡ false → None ≡ integer_of t
 integer_none (integer i) e = absurd (true≢false e)
 integer_none (bytes b) e = refl
@@ -82,3 +85,6 @@ fault_by s id ks r e = ap (λ z. option_and_then (λ (k : CoseKey). key_fault s 
 
 pub parts_by : (kty : ℤ) (es fs : List (Label × Value)) (r : Option KeyFault) → r ≡ part_fault kty (map entry_view es) → es ≡ fs → r ≡ part_fault kty (map entry_view fs)
 parts_by kty es fs r e same = e ∙ ap (λ z. part_fault kty (map entry_view z)) same
+
+pub part_by : (i : ℤ) (es fs : List (Label × Value)) (r : Option (List ℕ)) → r ≡ bytes_at i (map entry_view es) → es ≡ fs → r ≡ bytes_at i (map entry_view fs)
+part_by i es fs r e same = e ∙ ap (λ z. bytes_at i (map entry_view z)) same

@@ -60,6 +60,14 @@ abbrev pub is_named : ℤ → Option Named → Bool
 is_named wanted None = not (int_eq wanted (pos 4))
 is_named wanted (Some n) = true
 
+-- the byte string at a label
+abbrev pub bytes_of : Tree → Option (List ℕ)
+bytes_of (bytes b) = Some b
+bytes_of _ = None
+
+abbrev pub bytes_at : ℤ → Params → Option (List ℕ)
+bytes_at i es = option_and_then bytes_of (value_at i es)
+
 -- a part of the key: a byte string that isn't empty; y may be the sign of the point alone (RFC 9053,
 -- section 7.1.1)
 abbrev pub has_bytes : Tree → Bool

@@ -39,6 +39,8 @@ pub enum Refusal {
     NoKey,
     /// No key with the key id is one for the algorithm: the first of them for this reason.
     UnfitKey(KeyFault),
+    /// The message has recipients, and its key is theirs. `rule` is not for such messages.
+    Recipients,
 }
 
 /// Whether a question may be asked.

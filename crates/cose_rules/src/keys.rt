@@ -147,6 +147,31 @@ pub fn permits(operations: &BTreeSet<KeyOperation>, number: i64) -> bool
     any_operation(operations, number)
 }
 
+fn bytes_of(value: &Value) -> Option<&[u8]>
+    ensures { option_copied result ≡ spec.bytes_of (view value.now) }
+{
+    match value {
+        Value::Bytes(content) => Some(content.as_slice()),
+        _ => None,
+    }
+}
+
+fn bytes_at(params: &[(Label, Value)], label: i64) -> Option<&[u8]>
+    ensures { option_copied result ≡ spec.bytes_at label (map entry_view params.now) }
+{
+    match value_of(params, label) {
+        Some(value) => bytes_of(value),
+        None => None,
+    }
+}
+
+/// The byte string under this label of a key, as its k or n (-1), its x or e (-2), its y (-3).
+pub fn part_of(key: &CoseKey, label: i64) -> Option<&[u8]>
+    ensures { option_copied result ≡ spec.bytes_at label (key_view key.now).params }
+{
+    bytes_at(&key.params, label)
+}
+
 /// Whether a value is a byte string that isn't empty.
 fn has_bytes(value: &Value) -> bool
     ensures { result ≡ spec.has_bytes (view value.now) }

@@ -17,7 +17,7 @@ pub use crate::claims::{Audience, ClaimRefusal, TimeFault, TokenTerms, claims_re
 pub use crate::claims_set::{NoClaims, claims_of};
 pub use crate::deciding::{Layer, Refusal, Ruling, first_candidate, id_in, rule};
 pub use crate::headers::{HeaderFault, are_understood, layer_fault};
-pub use crate::keys::{KeyFault, allows, fits, has_id, is_type, key_fault, permits};
+pub use crate::keys::{KeyFault, allows, fits, has_id, is_type, key_fault, part_of, permits};
 pub use crate::labels::{has_label, share_label};
 pub use crate::untagging::untagged;
 pub use crate::verifying::{Verify, is_good};

@@ -1,0 +1,9 @@
+//! A judge of the gate by rules and a check of signatures (RFC 9052, sections 3, 3.1, 4.4, 6.3 and
+//! 7.1).
+#![tactic(auto)]
+
+mod judge;
+mod ruling;
+
+pub use crate::judge::RuledJudge;
+pub use cose_rules::{HeaderFault, KeyFault, Refusal, Verify};
