@@ -1,8 +1,8 @@
 -- Items that lie too deep.
-use Rattle.std.proofs.Common.{◌≡◌, ◌<◌, ◌≤◌, ◌+◌, ◌-◌, ◌^◌, ℕ, zero, suc, List, [], ◌∷◌, ◌++◌, length, Option, Some, None, ◌⊎◌, ◌≢◌, inl, inr, append_assoc, Result, Ok, Err, IfErr, refl, sym, ap, subst, ◌∙◌, append-nil, arith, length-append}
+use Rattle.std.proofs.Common.{◌≡◌, ◌<◌, ◌≤◌, ◌+◌, ◌-◌, ◌^◌, ℕ, zero, suc, List, [], ◌∷◌, ◌++◌, length, Option, Some, None, ◌⊎◌, ◌≢◌, inl, inr, append_assoc, reverse, Result, Ok, Err, IfErr, refl, sym, ap, subst, ◌∙◌, append-nil, arith, length-append}
 use Rattle.std.specs.Prelude.{nat_eq, cond, OnErr}
 use Rattle.std.specs.Io.KnownBytes.{Consumes}
-use Rattle.std.proofs.lemmas.List.{append_cancel_left}
+use Rattle.std.proofs.lemmas.List.{append_cancel_left, length-reverse}
 use Rattle.std.proofs.lemmas.List.Sums.{sum_by-append}
 use Rattle.ciborium_ll.specs.Seen.{Seen}
 use Rattle.ciborium_ll.specs.Title.{Title}
@@ -16,10 +16,11 @@ use Rattle.cose_sift.specs.declared.walk.Fault.{Fault}
 use Rattle.cose_sift.specs.declared.walk.Fault.TheVariants as fault
 use Rattle.cose_sift.specs.declared.walk.Holds.{Holds}
 use Rattle.cose_sift.specs.declared.walk.Level.{Level}
+use Rattle.cose_sift.specs.declared.walk.Walk.{Walk}
 use Rattle.cose_sift.specs.Grammar.{stated, upto, after, body_of, bytes_in, Item, item, Items, no_items, item_more}
-use Rattle.cose_sift.specs.Walking.{Then, Long, Behind, Wants, IsAround, Goes, Agrees, IsDeep, IfDeep, breaks}
+use Rattle.cose_sift.specs.Walking.{Then, Long, Behind, Wants, IsAround, IsSound, Goes, Agrees, IsDeep, IfDeep, Counts, breaks, due_around, wanted_by}
 use Rattle.cose_sift.specs.Taking.{due_by, HeadFails, DeepAt, stopped_at}
-use Rattle.cose_sift.proofs.Steps.{takes_stated, takes_open, wants_there, string_there, only_rest, no_body}
+use Rattle.cose_sift.proofs.Steps.{takes_stated, takes_open, wants_there, items_there, behind_there, string_there, only_rest, no_body}
 use Rattle.cose_sift.proofs.TakenItem.{Begun}
 
 -- what is due after `x`
@@ -171,3 +172,33 @@ walk_deep W most body old new h at fault.Deep s x none is t c g d =
       grown = g;
     })
 walk_deep W most body old new h at fault.Memory s x none is t c g d = subst (DeepAt (Then (Long body) W) most old new) (sym is) tt
+
+-- the fewest bytes that are due
+zeros : (n : ℕ) → (breaks (items_there n).0 ≡ 0) × (length (items_there n).0 ≡ n)
+zeros zero = (refl, refl)
+zeros (suc n) = let r = zeros n in (r.0, ap suc r.1)
+
+fewest : (o : Option Holds) (ls : List Level) (s : IsAround o ls) → (breaks (behind_there o ls s).0 ≡ length ls) × (length (behind_there o ls s).0 ≡ due_around ls)
+fewest None [] s = (refl, refl)
+fewest None (l ∷ ls) s = let e : ◌≡◌ {A = List Level} (l ∷ ls) [] = s in cc
+fewest (Some k) [] s = absurd s
+fewest (Some k) (l ∷ ls) s =
+    let r = fewest l.holds ls s in
+    let i = zeros l.due in
+    let rest = behind_there l.holds ls s in
+    let n : breaks (255 ∷ ((items_there l.due).0 ++ rest.0)) ≡ 1 + (breaks (items_there l.due).0 + breaks rest.0) =
+    breaks_both (255 ∷ []) ((items_there l.due).0 ++ rest.0) ∙ ap (λ (z : ℕ). 1 + z) (breaks_both (items_there l.due).0 rest.0) in
+    (omega (arith, n, r.0, i.0), omega (arith, length-append (items_there l.due).0 rest.0, r.1, i.1))
+
+pub deep_counts : (most : ℕ) (w : Walk) (x : List ℕ) → IsSound w → Goes Item (wanted_by w) x → IsDeep Item most x → Counts most w
+deep_counts most w x s g d =
+    let ls : List Level = reverse w.levels.items in
+    let few = fewest w.holds ls s in
+    let i = zeros w.due in
+    let b = wants_there w.holds w.due ls s in
+    let n : breaks b.0 ≡ breaks (items_there w.due).0 + breaks (behind_there w.holds ls s).0 = breaks_both (items_there w.due).0 (behind_there w.holds ls s).0 in
+    let m : length b.0 ≡ length (items_there w.due).0 + length (behind_there w.holds ls s).0 = length-append (items_there w.due).0 (behind_there w.holds ls s).0 in
+    elim (d.deep b.0 (g.back b.0 b.1)) [
+      | inl many ↦ inl (omega (arith, many, n, few.0, i.0, length-reverse w.levels.items))
+      | inr long ↦ inr (omega (arith, long, m, few.1, i.1))
+    ]

@@ -228,14 +228,14 @@ pub closes_sound : (o : Option Holds) (xs ys : List Level) (l : Level) → o ≢
 closes_sound None xs ys l on e s = absurd (on refl)
 closes_sound (Some k) xs ys l on e s = subst (IsAround (Some k)) (reversed xs ys l e) s
 
-zero_item : Item (0 ∷ [])
+abbrev pub zero_item : Item (0 ∷ [])
 zero_item = item (0 ∷ []) (0 ∷ []) [] (Positive 0) (0, ([], refl, direct (omega arith) refl refl)) (of_stated 0 0 [] [] [] refl no_items refl) refl
 
-items_there : (n : ℕ) → (b : List ℕ) × Items n b
+abbrev pub items_there : (n : ℕ) → (b : List ℕ) × Items n b
 items_there zero = ([], no_items)
 items_there (suc n) = let r = items_there n in (0 ∷ r.0, item_more n (0 ∷ []) r.0 zero_item r.1)
 
-behind_there : (o : Option Holds) (ls : List Level) → IsAround o ls → (b : List ℕ) × Behind o ls b
+abbrev pub behind_there : (o : Option Holds) (ls : List Level) → IsAround o ls → (b : List ℕ) × Behind o ls b
 behind_there None ls s = ([], refl)
 behind_there (Some k) [] s = absurd s
 behind_there (Some k) (l ∷ ls) s =
@@ -243,7 +243,7 @@ behind_there (Some k) (l ∷ ls) s =
     let i = items_there l.due in
     (255 ∷ (i.0 ++ r.0), ([], 255 ∷ (i.0 ++ r.0), no_groups k, (255 ∷ [], i.0 ++ r.0, refl, (i.0, r.0, i.1, r.1, refl), refl), refl))
 
-pub wants_there : (o : Option Holds) (due : ℕ) (ls : List Level) → IsAround o ls → (b : List ℕ) × Wants o due ls b
+abbrev pub wants_there : (o : Option Holds) (due : ℕ) (ls : List Level) → IsAround o ls → (b : List ℕ) × Wants o due ls b
 wants_there o due ls s =
     let r = behind_there o ls s in
     let i = items_there due in

@@ -1,5 +1,5 @@
 -- What is to come while the heads of an item are taken.
-use Rattle.std.specs.Prelude.{◌≡◌, ◌≢◌, ◌<◌, ◌≤◌, ◌^◌, ◌⊎◌, ℕ, List, [], ◌∷◌, ◌++◌, length, reverse, Option, Some, None, nat_eq}
+use Rattle.std.specs.Prelude.{◌≡◌, ◌≢◌, ◌<◌, ◌≤◌, ◌^◌, ◌⊎◌, ◌+◌, ℕ, List, [], ◌∷◌, ◌++◌, length, reverse, Option, Some, None, nat_eq}
 use Rattle.std.specs.List.{count_by}
 use Rattle.cose_sift.specs.declared.walk.Fault.{Fault}
 use Rattle.cose_sift.specs.declared.walk.Fault.TheVariants as fault
@@ -44,6 +44,16 @@ IsAround (Some k) (l ∷ ls) = IsAround l.holds ls
 
 abbrev pub IsSound : Walk → Type 0
 IsSound w = IsAround w.holds (reverse w.levels.items)
+
+-- how many breaks and items are due in what is around an open item
+abbrev pub due_around : List Level → ℕ
+due_around [] = 0
+due_around (l ∷ ls) = 1 + (l.due + due_around ls)
+
+-- so many items are open, or so many bytes are due at least
+abbrev pub Counts : ℕ → Walk → Type 0
+Counts most w = (most < length w.levels.items)
+    ⊎ (2 ^ 64 ≤ w.due + due_around (reverse w.levels.items))
 
 -- the bytes `i` are `x` and then bytes that are Q
 pub record Follows (Q : List ℕ → Type 0) (x i : List ℕ) : Type 0 where
