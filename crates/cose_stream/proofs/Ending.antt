@@ -118,10 +118,10 @@ behind None l' front Q t q = tt
 behind (Some x) None front Q t q = absurd t
 behind (Some x) (Some y) front Q t q = (y, t, q)
 
-within : (l₀ l₁ : Option (List ℕ)) (o₀ o₁ : ℕ) (P : List ℕ → Type 0) (t : Moves l₀ l₁ o₀ o₁ P) → o₀ ≡ 0 → IfKnown l₀ (λ b. o₁ ≤ length b)
-within None l₁ o₀ o₁ P t z = tt
-within (Some x) None o₀ o₁ P t z = absurd t.taken
-within (Some x) (Some y) o₀ o₁ P t z =
+in_all : (l₀ l₁ : Option (List ℕ)) (o₀ o₁ : ℕ) (P : List ℕ → Type 0) (t : Moves l₀ l₁ o₀ o₁ P) → o₀ ≡ 0 → IfKnown l₀ (λ b. o₁ ≤ length b)
+in_all None l₁ o₀ o₁ P t z = tt
+in_all (Some x) None o₀ o₁ P t z = absurd t.taken
+in_all (Some x) (Some y) o₀ o₁ P t z =
     let all : length x ≡ length t.bytes + length y = ap (λ (b : List ℕ). length b) t.taken ∙ length-append t.bytes y in
     let g : o₁ ≡ o₀ + length t.bytes = t.grown in
     omega (arith, all, g, z)
@@ -154,7 +154,7 @@ module _ {T : Type 0} (decided : T → Question → T) (told told' : T) (room : 
         answered = record { item = m.item; message = m.message; size = m.size; reads = m.reads; is = m.is; single = m.single; stated = m.stated; is_payload = c.is_payload; is_answer = m.answer };
         copied = c.is_copied;
         left = t.taken;
-        within = within l l' o at _ t start;
+        within = in_all l l' o at _ t start;
       }
 
   -- within the limits if none are chosen, from the whole input
