@@ -5,13 +5,13 @@ use Rattle.cose_gate.specs.Anew.{AreEntries}
 use Rattle.cose_gate.specs.Asked.{folded_over}
 use Rattle.cose_gate.specs.Counts.{Counts}
 use Rattle.cose_gate.specs.Entry.{Entry}
-use Rattle.cose_gate.specs.Findings.{usual, IsJudged}
+use Rattle.cose_gate.specs.Findings.{Bounds, usual, IsJudged}
 use Rattle.cose_gate.specs.Front.{Reads}
 use Rattle.cose_gate.specs.GateFault.{GateFault}
 use Rattle.cose_gate.specs.GateFault.TheVariants as gating
 use Rattle.cose_gate.specs.Misshapen.{NamesShapes}
-use Rattle.cose_gate.specs.Outcome.{Rules, GateState, IfTooLong, writer_failures}
-use Rattle.cose_gate.specs.Questions.{MessageFields}
+use Rattle.cose_gate.specs.Outcome.{IfTooLong, writer_failures}
+use Rattle.cose_gate.specs.Questions.{MessageFields, Question}
 use Rattle.cose_gate.specs.ReadError.TheVariants.{TooLong}
 use Rattle.cose_gate.specs.Reading.{IfKnown, IsFar}
 use Rattle.cose_gate.specs.Run.{Step, entries_of}
@@ -27,15 +27,15 @@ noted_all : (old es : List Entry) → folded_over (λ ns e. ns ++ e ∷ []) old 
 noted_all old [] = sym (append-nil old)
 noted_all old (e ∷ es) = noted_all (old ++ e ∷ []) es ∙ append_assoc old (e ∷ []) es
 
-module _ {T : Type 0} (rules : Rules T (List Entry)) (old new : GateState T (List Entry)) (ss : List Step) where
-  pub noted : rules.folded ≡ (λ ns e. ns ++ e ∷ []) → rules.limits ≡ usual → (made : List Step) → NamesShapes rules.limits made → AreEntries rules.allows rules.aad ss (entries_of made)
-      → new.state ≡ folded_over rules.folded old.state (entries_of made) → spec.Noted rules.allows rules.aad ss old.state new.state
-  noted folds limits made shapes are state = (
-    made,
-    subst (λ l. NamesShapes l made) limits shapes,
-    are,
-    state ∙ (ap (λ f. folded_over f old.state (entries_of made)) folds ∙ noted_all old.state (entries_of made)),
-  )
+pub noted : (folded : List Entry → Entry → List Entry) (limits : Bounds) (allows : Question → Bool) (aad : List ℕ) (old new : List Entry) (ss : List Step)
+    → folded ≡ (λ ns e. ns ++ e ∷ []) → limits ≡ usual → (made : List Step) → NamesShapes limits made → AreEntries allows aad ss (entries_of made)
+    → new ≡ folded_over folded old (entries_of made) → spec.Noted allows aad ss old new
+noted folded limits allows aad old new ss folds same made shapes are state = (
+  made,
+  subst (λ l. NamesShapes l made) same shapes,
+  are,
+  state ∙ (ap (λ f. folded_over f old (entries_of made)) folds ∙ noted_all old (entries_of made)),
+)
 
 -- a reader that counts no failure had none
 pub no_failure : (n : ℕ) → 0 ≡ 0 + n → n ≡ 0

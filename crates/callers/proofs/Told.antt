@@ -84,14 +84,14 @@ module _ {S : Type 0} (folded : S → Entry → S) (aad input : List ℕ) (old n
     records = a.asked ∙ told_records old.told (asked_in always aad a.run);
   }
 
-pub passed_by : {S : Type 0} (folded : S → Entry → S) (yes : Question → Bool) (aad input : List ℕ) (old new : GateState (Unit {0}) S) {E : Type 0} (ends : E → Bool) → old.offset ≡ 0 → old.left ≡ Some input
-    → (output : List ℕ) (counts : Counts) → old.written ≡ Some [] → new.written ≡ Some output → Ran ends false (passing folded yes aad) old new (Ok counts)
-    → IsPassedBy yes aad input output counts
-passed_by folded yes aad input old new ends start is output counts none out a =
-    let m = ran.whole ends false (passing folded yes aad) old new (Ok counts) input a is in
+pub passed_by : {S : Type 0} (folded : S → Entry → S) (grants : Question → Bool) (aad input : List ℕ) (old new : GateState (Unit {0}) S) {E : Type 0} (ends : E → Bool) → old.offset ≡ 0 → old.left ≡ Some input
+    → (output : List ℕ) (counts : Counts) → old.written ≡ Some [] → new.written ≡ Some output → Ran ends false (passing folded grants aad) old new (Ok counts)
+    → IsPassedBy grants aad input output counts
+passed_by folded grants aad input old new ends start is output counts none out a =
+    let m = ran.whole ends false (passing folded grants aad) old new (Ok counts) input a is in
     record {
       steps = m.steps;
-      course = whole_course usual yes aad old.offset input start m.steps m.rest m.counted.2 m.run;
+      course = whole_course usual grants aad old.offset input start m.steps m.rest m.counted.2 m.run;
       output_is = appended none out m.made.written;
       passed = m.counted.0;
       refused = m.counted.1;
