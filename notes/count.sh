@@ -1,1 +1,0 @@
-cd $1; for k in src specs proofs; do echo -n "$k $(find crates/*/$k -type f \( -name '*.rt' -o -name '*.antt' \) -not -path '*/out/*' | xargs cat | wc -l)  "; done; echo -n "crates $(ls -d crates/*/ | wc -l) edits $(ls edits/*/*.edit | wc -l)+$(ls crates/*/must-fail/*.edit | wc -l) "; echo "pages $(cat README.md docs/*.md CHANGELOG.md | wc -w)"
