@@ -1,17 +1,18 @@
 -- An index, key by key.
-use Rattle.std.proofs.Common.{◌≡◌, ℕ, List, [], ◌∷◌, ◌++◌, Bool, true, false, cond, Option, Some, None, option_map, is_some, refl, sym, ap, ◌∙◌}
+use Rattle.std.proofs.Common.{◌≡◌, ℕ, List, [], ◌∷◌, ◌++◌, Bool, true, false, cond, Option, Some, None, option_map, is_some, is_eq, refl, sym, ap, ◌∙◌, Bor, nat_cmp, Ordering, Less, Equal, Greater}
 use Rattle.std.specs.Prelude.{◌&&◌, if◌then◌else◌, option_and_then}
 use Rattle.std.specs.Option.{option_or}
 use Rattle.std.specs.List.{find}
-use Rattle.std.specs.BTreeMap.{get_by, UpdatesBy}
+use Rattle.std.specs.BTreeMap.{BTreeMap, get_by, UpdatesBy}
 use Rattle.std.specs.Cmp.Lexicographic.{slice_cmp}
-use Rattle.std.specs.Ordering.{nat_cmp}
+use Rattle.std.specs.Ordering.{ordering_then}
 use Rattle.std.specs.Str.{bytes_eq}
 use Rattle.std.proofs.lemmas.Bool.{true≢false}
-use Rattle.std.proofs.lemmas.Map.Text.{btree_map_updates_str}
+use Rattle.std.proofs.lemmas.Cmp.{nat_cmp_total, tied_itself}
+use Rattle.std.proofs.lemmas.Map.Text.{is_eq-slice_cmp}
 use Rattle.std.proofs.lemmas.Slice.Eq.{bytes_eq-Decides}
 use Rattle.coset_keys.specs.Fields.{KeyFields}
-use Rattle.cose_gate_program.specs.Indexed.{Secrets, secret_at, IsIndexOf, Adds, Enters}
+use Rattle.cose_gate_program.specs.Indexed.{ending, order_of_ids, Secrets, secret_at, IsIndexOf, Adds, Enters}
 use Rattle.cose_gate_program.specs.Keys.{secret, fits, serves, secret_under}
 use Rattle.cose_gate_program.specs.Names.{is_symmetric, allows_hmac, allows_verify}
 use Rattle.cose_gate_program.specs.declared.prepared.PreparedSecret.{PreparedSecret}
@@ -40,13 +41,26 @@ none_given : (o : Option PreparedSecret) (b : Bool) → b ≡ is_some o → b �
 none_given None b e f = refl
 none_given (Some p) b e f = absurd (true≢false (sym e ∙ f))
 
-pub entered : (m n : Secrets) (id s : List ℕ) (p : PreparedSecret) (b : Bool) → p.secret.now ≡ s
-    → b ≡ is_some (get_by (λ k. slice_cmp nat_cmp id k.now) m) → b ≡ false
-    → UpdatesBy (λ x y. slice_cmp nat_cmp x.now y.now) (λ k. slice_cmp nat_cmp id k.now) m n (Some p) → Enters m id s n
-entered m n id s p b same e absent u q =
-    let none : secret_at m id ≡ None = none_given (get_by (λ k. slice_cmp nat_cmp id k.now) m) b e absent in
-    ap (λ z. given z) (btree_map_updates_str id m n (Some p) u q)
-    ∙ found_by (bytes_eq id q) (get_by (λ k. slice_cmp nat_cmp q k.now) m) p s same (λ t. ap (λ z. secret_at m z) (sym ((bytes_eq-Decides id q).0 t)) ∙ none)
+tied : (o p : Ordering) (b : Bool) → is_eq p ≡ b → (b ≡ true → o ≡ Equal) → is_eq (ordering_then o p) ≡ b
+tied Equal p b e h = e
+tied Less p true e h = cc (h refl)
+tied Less p false e h = refl
+tied Greater p true e h = cc (h refl)
+tied Greater p false e h = refl
+
+same_ids : (id q : List ℕ) → is_eq (ordering_then (nat_cmp (ending id) (ending q)) (slice_cmp nat_cmp id q)) ≡ bytes_eq id q
+same_ids id q = tied _ _ _ (is_eq-slice_cmp id q) (λ t. ap (λ z. nat_cmp (ending id) (ending z)) (sym ((bytes_eq-Decides id q).0 t)) ∙ tied_itself nat_cmp_total (ending id))
+
+pub entered : (m n : BTreeMap (ℕ × Bor (List ℕ)) PreparedSecret) (k : ℕ) (id : Bor (List ℕ)) (s : List ℕ) (p : PreparedSecret) (b : Bool) → k ≡ ending id.now → p.secret.now ≡ s
+    → b ≡ is_some (get_by (order_of_ids (k, id)) m) → b ≡ false
+    → UpdatesBy order_of_ids (order_of_ids (k, id)) m n (Some p) → Enters m.entries id.now s n.entries
+entered m n k id s p b at same e absent u q =
+    let has = rw at at e in
+    let puts = rw at at u in
+    let none : secret_at m.entries id.now ≡ None = none_given (get_by (order_of_ids (ending id.now, id)) m) b has absent in
+    let of = get_by (order_of_ids (ending q, record { ref_ptr = (0, 0); now = q })) m in
+    ap given (puts.0 (ending q, record { ref_ptr = (0, 0); now = q }) ∙ ap (λ z. cond z (Some p) of) (same_ids id.now q))
+    ∙ found_by (bytes_eq id.now q) of p s same (λ t. ap (secret_at m.entries) (sym ((bytes_eq-Decides id.now q).0 t)) ∙ none)
 
 -- what a key alone gives
 alone : (b v : Bool) (k : KeyFields) (o : Option (List ℕ)) → o ≡ (if v then secret k else None)

@@ -7,6 +7,7 @@ pub mod LentLines
 pub mod Moved
 pub mod Numbers
 pub mod Runs
+pub mod Searches
 pub mod Tellings
 pub mod Verdicts
 pub mod Written

@@ -5,5 +5,5 @@ use Rattle.cose_gate_program.proofs.Added.{indexed}
 use Rattle.cose_gate_program.proofs.index.secrets_by_id.Goals as goal
 
 pub loop-key-preserved : goal.loop-key-preserved
-loop-key-preserved c = indexed c.loop-key.by_id c.add_key.new.by_id (map key_view (take c.loop-key.key-index c.args.keys.now)) _ (key_view c.key-item.result) c.loop-key.invariant c.in-Ok.ensures
+loop-key-preserved c = indexed c.loop-key.by_id.entries c.add_key.new.by_id.entries (map key_view (take c.loop-key.key-index c.args.keys.now)) _ (key_view c.key-item.result) c.loop-key.invariant c.in-Ok.ensures
     (grind (arith, common_steps))
