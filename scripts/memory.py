@@ -18,7 +18,7 @@ NOT_SHIPPED = r"tests?$|test_tools|^conformance_|^example_|^bench$|^callers$"
 MAKERS = [name for line in ALLOWED for name in re.findall(r": fn (\w+)\(", line)]
 KIND = r"(?:(?:\w+::)*(?:Memory|OutOfMemory)\b(?!\()|\bAlloc(?:Error|Failed)\b|\.(?:%s)\(\))" % "|".join(MAKERS or ["-"])
 # Calls of std whose only fault it is.
-ALLOCATES = r"\b(push|extend_from_slice|insert|resize|reserve|with_capacity|from_str|Box::new)\("
+ALLOCATES = r"\b(push|extend_from_slice|insert|resize|reserve|reserve_exact|with_capacity|from_str|Box::new)\("
 BEGINS = r"(\} else )?(if|let|match|while|('\w+: )?for|return|(pub(\(crate\))? )?fn)\b|.*\bmatch "
 
 

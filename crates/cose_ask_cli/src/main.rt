@@ -5,8 +5,8 @@
 
 use ciborium_ll::Io;
 use cose_gate_command::{
-    NotRun, ask, asks_for_help, asks_for_version, ended, read_in_blocks, words_of, write_help,
-    write_in_blocks,
+    NotRun, ask, asks_for_help, asks_for_version, ended, hand_on_in_blocks, read_in_blocks,
+    words_of, write_help, write_in_blocks,
 };
 use cose_gate_program::{Blocks, has_stack};
 use std::env;
@@ -62,16 +62,16 @@ fn start(rt: &HostRuntime) -> Result<u8, NotRun> {
 fn run(rt: &HostRuntime, words: &[String]) -> Result<u8, NotRun> {
     let alloc = rt.alloc();
     let input = read_in_blocks(alloc, rt.stdin())?;
-    let mut output = write_in_blocks(alloc, rt.stdout())?;
+    let mut output = hand_on_in_blocks(alloc, rt.stdout())?;
     let mut lines = write_in_blocks(alloc, rt.stderr())?;
     let end = ask(
         alloc,
         words,
         &mut Blocks::new(input),
-        &mut Io::new(&mut output),
+        &mut output,
         &mut Io::new(&mut lines),
     );
     // What a flush that failed has left isn't written as the program ends.
-    let _ = (output.into_parts(), lines.into_parts());
+    let _ = lines.into_parts();
     end
 }

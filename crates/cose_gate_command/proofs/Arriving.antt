@@ -14,7 +14,7 @@ use Rattle.cose_gate_core.specs.Asked.{folded_over}
 use Rattle.cose_gate_core.specs.Questions.{Question}
 use Rattle.cose_gate_command.specs.Asking.{Hands, IsStatus, Sent, or_status}
 use Rattle.cose_gate_command.specs.Lines.{parts_of, told_as}
-use Rattle.cose_gate_command.specs.Written.{IsWritten, AreWritten, AreWrittenSince, Asked, HasText, HasTexts, Beginning, AreOut, added, parts_in}
+use Rattle.cose_gate_command.specs.Written.{IsWritten, AreWritten, AreWrittenSince, Asked, HasText, HasTexts, Beginning, AreOut, HandedSince, added, parts_in}
 use Rattle.cose_gate_command.specs.declared.options.Form.{Form}
 use Rattle.cose_gate_command.specs.declared.not_run.NotRun.{NotRun}
 use Rattle.cose_gate_command.specs.declared.not_run.NotRun.TheVariants as unrun
@@ -192,6 +192,24 @@ module _ {W F : Type 0} (w : Writes W F) where
         subst (λ (z : Form). AreWritten w z first now written (length sent.items) qs) fs
         (subst (λ (z : List W). AreWrittenSince w form' z now written (length sent.items) qs) bs (wrote qs (sym ts)))
 
+    pub all_handed : (first now : W) (b : List W) (written : Result (Unit {0}) NotRun) → begun ≡ first ∷ [] → b ≡ begun' → HandedSince w b now written → HandedSince w (first ∷ []) now written
+    all_handed first now b written starts same h =
+        subst (λ (z : List W). HandedSince w z now written) (same ∙ (ap (λ (z : Asked W). z.was) all ∙ starts)) h
+
+  -- nothing is held back of no questions, nor after one that was handed on
+  pub none_handed : (now : W) (begun : List W) → begun ≡ now ∷ [] → HandedSince w begun now (Ok tt)
+  none_handed now begun first = subst (λ (z : List W). HandedSince w z now (Ok tt)) (sym first) (λ none. none)
+
+  pub next_handed : (begun : List W) (new : W) (written : Result (Unit {0}) NotRun) → OnOk written (w.held new ≡ []) → HandedSince w begun new written
+  next_handed [] new written handed = tt
+  next_handed (old ∷ more) new (Ok u) handed = λ none. handed
+  next_handed (old ∷ more) new (Err why) handed = tt
+
+  pub handed_by : (first now : W) (s : ℕ) (written : Result (Unit {0}) NotRun) (result : Result ℕ NotRun) → result ≡ or_status s written → HandedSince w (first ∷ []) now written
+      → w.held first ≡ [] → OnOk result (w.held now ≡ [])
+  handed_by first now s (Ok u) result e h none = subst (λ (z : Result ℕ NotRun). OnOk z (w.held now ≡ [])) (sym e) (h none)
+  handed_by first now s (Err why) result e h none = subst (λ (z : Result ℕ NotRun). OnOk z (w.held now ≡ [])) (sym e) tt
+
   -- what one question was, or a beginning of it
   pub torn : (old new : W) (text : List ℕ) → w.handle new ≡ w.handle old → w.failed new ≡ w.failed old + 1
       → AppendsFront (w.written old) (w.written new) text → IsWritten w old new (Err unrun.Output) text
@@ -255,3 +273,8 @@ not_handed_on w out mid out' (Ok x) (Err y) text e s k n o h =
 pub same_handle : {W F : Type 0} (w : Writes W F) (form : Form) (out out' : W) (written : Result (Unit {0}) NotRun) (n : ℕ) (asked : List Question) → AreWritten w form out out' written n asked
     → w.handle out' ≡ w.handle out
 same_handle w form out out' written n asked p = p.0
+
+-- what is known of a result that is no error
+pub at_no_err : {T E : Type 0} (r : Result T E) (P : Type 0) → is_err r ≡ false → OnOk r P → P
+at_no_err (Ok x) P e p = p
+at_no_err (Err y) P e p = absurd (true≢false e)

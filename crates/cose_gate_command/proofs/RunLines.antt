@@ -1,16 +1,25 @@
 -- What is said of a run, as it is told.
-use Rattle.std.proofs.Common.{◌≡◌, ℕ, List, [], ◌∷◌, ◌++◌, Bool, true, false, refl, sym, ap, subst, ◌∙◌, append-nil, append_assoc, arith}
+use Rattle.std.proofs.Common.{◌≡◌, ◌≤◌, ℕ, List, [], ◌∷◌, ◌++◌, Bool, true, false, refl, sym, ap, subst, ◌∙◌, append-nil, append_assoc, arith}
 use Rattle.std.specs.Prelude.{Option, Some, None, flat_map}
 use Rattle.std.specs.Io.KnownBytes.{Appends}
 use Rattle.std.proofs.lemmas.Grind.{flat_map-append}
-use mathlib.Core.Logic.{∥∥₁_map}
+use Rattle.std.proofs.lemmas.Bool.{true≢false}
+use Rattle.std.specs.Coded.{le_prop}
+use mathlib.Core.Logic.{∥∥₁_map, ∥∥₁_rec}
 use Rattle.ciborium_ll.specs.declared.write.Write.{Ghosts as Writes}
 use Rattle.cose_gate_core.specs.Asked.{folded_over}
-use Rattle.cose_gate_program.specs.Writing.{Wrote, WroteSince}
+use Rattle.cose_gate_core.specs.Findings.{Bounds}
+use Rattle.cose_gate_core.specs.GateRun.{result_of}
+use Rattle.cose_gate_core.specs.Questions.{Question}
+use Rattle.cose_gate_program.specs.Program.{Devices}
+use Rattle.cose_gate_program.specs.Telling.{RanTold, items_of, last_of}
+use Rattle.cose_gate_program.specs.Writing.{Wrote, WroteSince, HandedOn, HandedSince, is_last}
 use Rattle.cose_gate_program.specs.declared.telling.Notice.{Notice}
+use Rattle.cose_gate_program.specs.declared.telling.Notice.TheVariants as notice
+use Rattle.cose_gate_program.proofs.Handed.{handed_after, it_is_last, over_by_last}
 use Rattle.cose_gate_program.proofs.Written.{wrote_then}
 use Rattle.cose_gate_command.specs.KeyFiles.{indented}
-use Rattle.cose_gate_command.specs.RunLines.{Adds, AreIndented, LineLog, SaysSince, is_line, shown}
+use Rattle.cose_gate_command.specs.RunLines.{Adds, AreIndented, LineLog, SaysSince, StaysHandedOn, is_line, is_silent, shown}
 use Rattle.cose_gate_command.specs.RunLines.AreIndented.{none, one_more}
 use Rattle.cose_gate_command.specs.RunLines.Among.{nothing, line, more}
 
@@ -112,3 +121,50 @@ said_all {W} w s s' ns first now verbose quiet e begun empty loud still is =
 -- they are on the same writer
 pub same_writer : {W : Type 0} (s s' : LineLog W) (ns : List Notice) → s' ≡ folded_over says s ns → s'.name ≡ s.name
 same_writer s s' ns e = ap (λ (z : LineLog _). z.name) (e ∙ said_over s ns)
+
+-- a notice without a line is of an item
+pub not_silent : (quiet : Bool) (n : Notice) → is_silent quiet n ≡ true → is_last n ≡ true → ⊥
+not_silent quiet (notice.Item e) s l = true≢false (sym l)
+not_silent quiet (notice.Counts c) s l = true≢false (sym s)
+not_silent quiet (notice.Stopped f) s l = true≢false (sym s)
+not_silent quiet (notice.NotBegun why) s l = true≢false (sym s)
+
+-- how often the writer had failed at first
+fails_since : {W F : Type 0} (w : Writes W F) (verbose quiet : Bool) (first : W) (more : List W) (now : W) (told : List Notice) → SaysSince w verbose quiet (first ∷ more) now told
+    → w.failed first ≤ w.failed now
+fails_since w true quiet first more now told says = ∥∥₁_rec le_prop (λ s. s.2.1.0) says
+fails_since w false quiet first more now told says = says.1.0
+
+fails_more : {W F : Type 0} (w : Writes W F) (verbose : Bool) (old new : W) → Adds w verbose old new → w.failed old ≤ w.failed new
+fails_more w true old new adds = adds.2.1.0
+fails_more w false old new adds = adds.1.0
+
+same_both : (a b c d : ℕ) → a ≤ b → b ≤ c → c ≤ d → d ≡ a → (c ≡ b) × (d ≡ c)
+same_both a b c d p q r e = (omega (arith, p, q, r, e), omega (arith, p, q, r, e))
+
+-- what is held back after one more notice, and after a flush
+pub handed_line : {W F : Type 0} (w : Writes W F) (verbose quiet : Bool) (was : List W) (old mid new : W) (told : List Notice) (n : Notice)
+    → SaysSince w verbose quiet was old told → Wrote w old mid (shown quiet n) → (is_last n ≡ true → HandedOn w old mid) → Adds w verbose mid new → StaysHandedOn w mid new
+    → HandedSince w was new (told ++ n ∷ [])
+handed_line w verbose quiet [] old mid new told n says wrote last adds stays = tt
+handed_line w verbose quiet (first ∷ more) old mid new told n says wrote last adds stays = λ over steady.
+    let s = same_both (w.failed first) (w.failed old) (w.failed mid) (w.failed new) (fails_since w verbose quiet first more old told says) wrote.1.0 (fails_more w verbose mid new adds) steady in
+    stays s.1 (last (sym (over_by_last told n) ∙ over) s.0)
+
+pub handed_rest : {W F : Type 0} (w : Writes W F) (verbose quiet : Bool) (was : List W) (old new : W) (told : List Notice)
+    → SaysSince w verbose quiet was old told → Wrote w old new [] → HandedOn w old new → HandedSince w was new told
+handed_rest w verbose quiet [] old new told says wrote handed = tt
+handed_rest w verbose quiet (first ∷ more) old new told says wrote handed = λ over. handed_after w first old new (fails_since w verbose quiet first more old told says) wrote.1.0 handed
+
+-- and at the end of a run
+pub handed_said : {limits : Bounds} {allows : Question → Bool} {aad : List ℕ} {old new : Devices} {status : ℕ} {A : List Question → Type 0} {W F : Type 0} (w : Writes W F) (s s' : LineLog W) (first now : W)
+    → RanTold limits allows aad old new status A (λ ns. s' ≡ folded_over says s ns) → s.was ≡ first ∷ [] → s.told ≡ [] → HandedSince w s'.was now s'.told → HandedOn w first now
+handed_said {allows = allows} {aad = aad} {W = W} w s s' first now r begun empty handed =
+    let last = last_of (result_of allows aad r.run) r.flushed in
+    let ns : List Notice = items_of r.run.done in
+    let end : s' ≡ record s { told = s.told ++ (ns ++ last ∷ []) } = r.told ∙ said_over s (ns ++ last ∷ []) in
+    let b : s'.was ≡ first ∷ [] = ap (λ (z : LineLog W). z.was) end ∙ begun in
+    let t : s'.told ≡ ns ++ last ∷ [] = ap (λ (z : LineLog W). z.told) end ∙ ap (λ (z : List Notice). z ++ (ns ++ last ∷ [])) empty in
+    let all : HandedSince w (first ∷ []) now (ns ++ last ∷ [])
+    = subst (λ (z : List W). HandedSince w z now (ns ++ last ∷ [])) b (subst (λ (z : List Notice). HandedSince w s'.was now z) t handed) in
+    all (over_by_last ns last ∙ it_is_last (result_of allows aad r.run) r.flushed)

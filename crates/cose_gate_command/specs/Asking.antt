@@ -24,12 +24,9 @@ use Rattle.cose_gate_command.specs.declared.options.Form.{Form}
 abbrev pub status_of : NotRun → ℕ
 status_of unrun.Usage = 2
 status_of unrun.NotHex = 2
-status_of unrun.NoFile = 3
-status_of unrun.NoRecords = 3
-status_of (unrun.LineNotHex n) = 3
-status_of (unrun.LineNoRecord n) = 3
 status_of unrun.Memory = 4
 status_of unrun.Output = 4
+status_of e = 3
 
 -- AADHEX is no hex, or it is out of memory
 abbrev pub IsNoAad : Option (List ℕ) → NotRun → Type 0

@@ -19,9 +19,7 @@ has_passed (Refused r) = false
 -- a notice without a line: with --quiet that of an item that passed
 abbrev pub is_silent : Bool → Notice → Bool
 is_silent quiet (notice.Item e) = quiet && has_passed e.verdict
-is_silent quiet (notice.Counts c) = false
-is_silent quiet (notice.Stopped f) = false
-is_silent quiet (notice.NotBegun why) = false
+is_silent quiet n = false
 
 -- the line of a notice, if it has one
 abbrev pub shown : Bool → Notice → List ℕ
@@ -50,6 +48,10 @@ pub data AreIndented : List ℕ → Type 0 where
 abbrev pub Adds : {W F : Type 0} → Writes W F → Bool → W → W → Type 0
 Adds w true old new = (said : List ℕ) × AreIndented said × Wrote w old new said
 Adds w false old new = Wrote w old new []
+
+-- a writer that holds nothing back goes on to hold nothing back, unless it has failed
+abbrev pub StaysHandedOn : {W F : Type 0} → Writes W F → W → W → Type 0
+StaysHandedOn w old new = w.failed new ≡ w.failed old → w.held old ≡ [] → w.held new ≡ []
 
 -- the lines of these notices, in order, among lines that begin with two blanks
 pub data Among : Bool → List Notice → List ℕ → Type 0 where

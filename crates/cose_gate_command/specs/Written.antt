@@ -109,6 +109,19 @@ AreOut-prop w form first new written sent told =
     Π_prop (λ qs. →_prop
     (AreWrittenSince-prop w form first.items new written (length sent.items) qs))
 
+-- nothing is held back, if each question was written and nothing was held back before the first
+abbrev pub HandedSince : {W F : Type 0} → Writes W F → List W → W → Result (Unit {0}) NotRun
+    → Type 0
+HandedSince w [] new written = Unit {0}
+HandedSince w (old ∷ more) new (Ok u) = w.held old ≡ [] → w.held new ≡ []
+HandedSince w (old ∷ more) new (Err why) = Unit {0}
+
+pub HandedSince-prop : {W F : Type 0} (w : Writes W F) (begun : List W) (new : W)
+    (written : Result (Unit {0}) NotRun) → IsProp (HandedSince w begun new written)
+HandedSince-prop w [] new written = Unit-prop
+HandedSince-prop w (old ∷ more) new (Ok u) = →_prop (Coded-set (coded_list coded_ℕ) _ _)
+HandedSince-prop w (old ∷ more) new (Err why) = Unit-prop
+
 -- questions on a writer that is lent: what the writer was at first, and what was told since
 pub record Asked (W : Type 0) : Type 0 where
   pub name : ℕ

@@ -1,10 +1,10 @@
 //! The run of `cose-ask`.
-ghost use Rattle.std.specs.Prelude.{◌≡◌, false, is_ok, map, string_bytes};
+ghost use Rattle.std.specs.Prelude.{◌≡◌, [], OnOk, false, is_ok, map, string_bytes};
 ghost use Rattle.cose_gate_command.specs.Arguments as spec;
 ghost use Rattle.cose_gate_command.specs.Asking.{Asks, Asked, or_status, reading};
 ghost use Rattle.cose_gate_command.specs.Waiting.{last_line};
 ghost use Rattle.cose_gate_core.specs.Terms.{limits_of};
-ghost use Rattle.cose_gate_program.specs.Writing.{Wrote};
+ghost use Rattle.cose_gate_program.specs.Writing.{Wrote, HandedOn};
 
 use crate::ending::{Ending, end};
 use crate::not_run::NotRun;
@@ -36,6 +36,8 @@ pub fn ask<R: Read, W: Write, E: Write>(
         out.old out.new err.old err.new result }
     ensures kept { R.handle input.new ≡ R.handle input.old }
     ensures lent { W.handle out.new ≡ W.handle out.old }
+    ensures handed { W.held out.old ≡ [] → OnOk result (W.held out.new ≡ []) }
+    ensures lines { OnOk result (HandedOn E.Write err.old err.new) }
 {
     let Some(arguments) = ask_arguments(words) else {
         return Err(NotRun::Usage);
@@ -59,6 +61,8 @@ fn ask_by<R: Read, W: Write, E: Write>(
         out.old out.new err.old err.new result }
     ensures kept { R.handle input.new ≡ R.handle input.old }
     ensures lent { W.handle out.new ≡ W.handle out.old }
+    ensures handed { W.held out.old ≡ [] → OnOk result (W.held out.new ≡ []) }
+    ensures lines { OnOk result (HandedOn E.Write err.old err.new) }
 {
     let mut begun = Begun::new(alloc);
     let mut told = Log::new();
@@ -87,6 +91,7 @@ fn finish<E: Write>(
 ) -> Result<u8, NotRun>
     ensures status { result ≡ or_status status written }
     ensures lines { Wrote E.Write err.old err.new (last_line (is_ok result) last.now) }
+    ensures handed { HandedOn E.Write err.old err.new }
 {
     end(written.is_ok(), last, err);
     match written {

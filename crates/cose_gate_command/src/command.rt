@@ -1,8 +1,9 @@
 //! The program by its arguments.
-ghost use Rattle.std.specs.Prelude.{◌≡◌, map, option_copied, string_bytes};
+ghost use Rattle.std.specs.Prelude.{◌≡◌, ◌<◌, [], map, option_copied, string_bytes};
 ghost use Rattle.cose_gate_command.specs.Arguments as spec;
 ghost use Rattle.cose_gate_command.specs.Ends.{EndsBy};
 ghost use Rattle.cose_gate_program.specs.Program.{devices_of};
+ghost use Rattle.cose_gate_program.specs.Writing.{HandedOn};
 
 use crate::arguments::read_arguments;
 use crate::key_file::KeyFile;
@@ -33,6 +34,8 @@ pub fn program<'a, R: Read, W: Write, E: Write>(
         (devices_of R.Read W.Write input.new out.new) result err.old err.new }
     ensures kept { R.handle input.new ≡ R.handle input.old }
     ensures lent { W.handle out.new ≡ W.handle out.old }
+    ensures handed { result < 2 → W.held out.new ≡ [] }
+    ensures lines { result < 2 → HandedOn E.Write err.old err.new }
 {
     let Some(asked) = read_arguments(all) else {
         let _ = err.write_all(USAGE.as_bytes());

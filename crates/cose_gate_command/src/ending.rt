@@ -1,7 +1,7 @@
 //! The lines of a run whose last one waits.
 ghost use Rattle.std.specs.Prelude.{◌≡◌, ◌∷◌, []};
 ghost use Rattle.cose_gate_command.specs.Waiting.{Waiting, last_line, waits, waits_after};
-ghost use Rattle.cose_gate_program.specs.Writing.{WroteLines, WroteLines-prop, Wrote};
+ghost use Rattle.cose_gate_program.specs.Writing.{WroteLines, WroteLines-prop, Wrote, HandedOn};
 
 use ciborium_ll::Write;
 use ciborium_ll::log::Log;
@@ -47,13 +47,21 @@ impl<'a, W: Write> Ending<'a, W> {
 
 /// Writes the last line of a run, if it ended so, and hands all lines on.
 pub(crate) fn end<W: Write>(is_so: bool, last: &Option<Notice>, out: &mut W)
+    ensures wrote { Wrote W.Write out.old out.new (last_line is_so last.now) }
+    ensures handed { HandedOn W.Write out.old out.new }
+{
+    write_last(is_so, last, out);
+    hand_on(out);
+}
+
+/// Writes the last line of a run, if it ended so.
+fn write_last<W: Write>(is_so: bool, last: &Option<Notice>, out: &mut W)
     ensures { Wrote W.Write out.old out.new (last_line is_so last.now) }
 {
-    match last {
-        Some(last) if is_so => write_notice(last, out),
-        _ => {
-            let _ = out.flush();
-        }
+    if let Some(last) = last
+        && is_so
+    {
+        write_notice(last, out);
     }
 }
 

@@ -6,9 +6,9 @@ ghost use Rattle.cose_gate_command.specs.KeyFiles as spec;
 ghost use Rattle.cose_gate_command.specs.RunLines.{Adds};
 ghost use Rattle.cose_reasons.specs.Texts.{is_of_base64, is_of_hex};
 
-use crate::more::{flush, write_indented, write_more};
+use crate::more::{write_indented, write_more};
 use ciborium_ll::Write;
-use cose_gate_program::NotBegun;
+use cose_gate_program::{NotBegun, hand_on};
 use cose_reasons::{Page, is_of_base64, is_of_hex, write_char};
 use coset_labels::CoseError;
 use std::alloc::Global;
@@ -67,7 +67,7 @@ pub fn say_not_begun<W: Write>(
     put_not_begun(why, file, aad, &mut Page::new(&mut text));
     write_more(text.as_str(), "", out);
     write_more(rule(why), "", out);
-    flush(out);
+    hand_on(out);
 }
 
 /// Writes why a run with these arguments doesn't begin.

@@ -1,15 +1,15 @@
 //! The lines of the program, and what is said more.
-ghost use Rattle.std.specs.Prelude.{◌≡◌, ◌++◌, ◌∷◌, []};
-ghost use Rattle.cose_gate_program.specs.Writing.{Wrote};
+ghost use Rattle.std.specs.Prelude.{◌≡◌, ◌++◌, ◌∷◌, [], true};
+ghost use Rattle.cose_gate_program.specs.Writing.{Wrote, HandedOn, HandedSince, HandedSince-prop, is_last};
 ghost use Rattle.cose_gate_command.specs.RunLines as spec;
-ghost use Rattle.cose_gate_command.specs.RunLines.{Adds, LineLog, LogsSay, LogsSay-prop};
+ghost use Rattle.cose_gate_command.specs.RunLines.{Adds, StaysHandedOn, LineLog, LogsSay, LogsSay-prop};
 
 use crate::explained::Note;
-use crate::more::{Place, flush, say_more};
+use crate::more::{Place, say_more};
 use ciborium_ll::Write;
 use ciborium_ll::log::Log;
 use cose_gate_core::Verdict;
-use cose_gate_program::{Notice, Teller, write_notice};
+use cose_gate_program::{Notice, Teller, hand_on, write_notice};
 use std::cell::{Cell, RefCell};
 
 /// What is said more comes from these.
@@ -43,6 +43,7 @@ pub(crate) struct LineWriter<'o, 'n, W: Write> {
     told: &'o mut Log<Notice>,
     was: &'o Log<W>,
     ghost is: { LogsSay W.Write manner was.now out.now told.now } by { Prim.hlevel LogsSay-prop },
+    ghost handed: { HandedSince W.Write was.now.items out.now told.now.items } by { HandedSince-prop W.Write _ _ _ },
 }
 
 impl<'o, 'n, W: Write> LineWriter<'o, 'n, W> {
@@ -104,7 +105,8 @@ fn has_passed(verdict: Verdict) -> bool
 
 /// Writes the line of a notice, if it has one.
 fn write_shown<W: Write>(quiet: bool, notice: &Notice, out: &mut W)
-    ensures { Wrote W.Write out.old out.new (spec.shown quiet notice.now) }
+    ensures wrote { Wrote W.Write out.old out.new (spec.shown quiet notice.now) }
+    ensures handed { is_last notice.now ≡ true → HandedOn W.Write out.old out.new }
 {
     if is_silent(quiet, notice) {
         return;
@@ -120,7 +122,8 @@ fn explain<W: Write>(
     note: &RefCell<Note>,
     out: &mut W,
 )
-    ensures { Adds W.Write verbose out.old out.new }
+    ensures said { Adds W.Write verbose out.old out.new }
+    ensures handed { StaysHandedOn W.Write out.old out.new }
 {
     if !verbose {
         return;
@@ -150,6 +153,6 @@ impl<'o, 'n, W: Write> Teller for LineWriter<'o, 'n, W> {
     }
 
     fn rest(&mut self) {
-        flush(self.out);
+        hand_on(self.out);
     }
 }

@@ -3,12 +3,12 @@ ghost use Rattle.std.specs.Prelude.{◌≡◌, [], ◌++◌, true};
 ghost use Rattle.cose_gate_program.specs.Writing.{Wrote};
 ghost use Rattle.cose_gate_command.specs.KeyFiles.{indented};
 ghost use Rattle.cose_gate_command.specs.RunLines as spec;
-ghost use Rattle.cose_gate_command.specs.RunLines.{Adds};
+ghost use Rattle.cose_gate_command.specs.RunLines.{Adds, StaysHandedOn};
 
 use crate::explained::Note;
 use ciborium_ll::Write;
 use cose_gate_core::{GateFault, Refusal, SemanticKind, Verdict, de};
-use cose_gate_program::{InputFault, Notice};
+use cose_gate_program::{InputFault, Notice, hand_on};
 use std::cell::RefCell;
 use std::fmt::{self, Write as _};
 
@@ -22,7 +22,8 @@ pub(crate) struct Place {
 /// Says more of a notice: what a refusal means, or what stopped a run whose next item is at this
 /// place. The note is that of the judge.
 pub(crate) fn say_more<W: Write>(notice: &Notice, place: Place, note: &RefCell<Note>, out: &mut W)
-    ensures { Adds W.Write true out.old out.new }
+    ensures said { Adds W.Write true out.old out.new }
+    ensures handed { StaysHandedOn W.Write out.old out.new }
 {
     let Ok(mut guard) = note.try_borrow_mut() else {
         return;
@@ -34,7 +35,7 @@ pub(crate) fn say_more<W: Write>(notice: &Notice, place: Place, note: &RefCell<N
     write_more(remedy(notice), "", out);
     write_more(note.keys, "", out);
     note.keys = "";
-    flush(out);
+    hand_on(out);
 }
 
 /// Says of the keys what is said once, and flushes the writer.
@@ -46,7 +47,7 @@ pub fn say_keys<W: Write>(note: &RefCell<Note>, out: &mut W)
         Err(_) => "",
     };
     write_more(keys, "", out);
-    flush(out);
+    hand_on(out);
 }
 
 /// Says why the judge has said no to one message.
@@ -221,11 +222,4 @@ pub fn write_indented<W: Write>(first: &str, then: &str, out: &mut W)
     let _ = out.write_all(first.as_bytes());
     let _ = out.write_all(then.as_bytes());
     let _ = out.write_all(b"\n");
-}
-
-/// Hands on what a writer holds back. A fault of it is ignored.
-pub(crate) fn flush<W: Write>(out: &mut W)
-    ensures { Wrote W.Write out.old out.new [] }
-{
-    let _ = out.flush();
 }

@@ -1,9 +1,10 @@
 //! The run of `cose-pass`.
-ghost use Rattle.std.specs.Prelude.{◌≡◌, map, option_map, string_bytes};
+ghost use Rattle.std.specs.Prelude.{◌≡◌, ◌<◌, [], IfOk, OnOk, map, option_map, string_bytes};
 ghost use Rattle.cose_gate_core.specs.Terms.{limits_of};
 ghost use Rattle.cose_gate_command.specs.Arguments as spec;
 ghost use Rattle.cose_gate_command.specs.Passing.{Passed, Passes};
 ghost use Rattle.cose_gate_program.specs.Program.{devices_of};
+ghost use Rattle.cose_gate_program.specs.Writing.{HandedOn};
 
 use crate::accepted::read_accepted;
 use crate::not_run::NotRun;
@@ -34,6 +35,8 @@ pub fn pass<R: Read, W: Write, E: Write>(
         (devices_of R.Read W.Write input.new out.new) err.old err.new result }
     ensures kept { R.handle input.new ≡ R.handle input.old }
     ensures lent { W.handle out.new ≡ W.handle out.old }
+    ensures handed { IfOk result (λ status. status < 2 → W.held out.new ≡ []) }
+    ensures lines { OnOk result (HandedOn E.Write err.old err.new) }
 {
     let Some(arguments) = pass_arguments(words) else {
         return Err(NotRun::Usage);
@@ -61,6 +64,8 @@ fn pass_by<R: Read, W: Write, E: Write>(
         (devices_of R.Read W.Write input.new out.new) err.old err.new result }
     ensures kept { R.handle input.new ≡ R.handle input.old }
     ensures lent { W.handle out.new ≡ W.handle out.old }
+    ensures handed { IfOk result (λ status. status < 2 → W.held out.new ≡ []) }
+    ensures lines { OnOk result (HandedOn E.Write err.old err.new) }
 {
     let Ok(judge) = Accepted::new(alloc, records) else {
         return Err(NotRun::Memory);

@@ -1,5 +1,9 @@
 //! How a program starts and ends.
+ghost use Rattle.std.specs.Prelude.{◌≡◌, [], IfOk};
+ghost use Rattle.cose_gate_program.specs.OutOfBlocks.{out_blocks_held};
+
 use crate::not_run::NotRun;
+use cose_gate_program::OutBlocks;
 use std::alloc::Global;
 use std::io::{BufReader, BufWriter};
 use std::{env, io};
@@ -64,6 +68,22 @@ pub fn write_in_blocks<W: io::Write + Drop>(
 ) -> Result<BufWriter<W>, NotRun> {
     match BufWriter::with_capacity(alloc, BLOCK, writer) {
         Ok(writer) => Ok(writer),
+        Err(_) => Err(NotRun::Memory),
+    }
+}
+
+/// A writer in blocks that tells what it holds back.
+///
+/// # Errors
+/// `Memory`.
+pub fn hand_on_in_blocks<W: io::Write + Drop>(
+    alloc: Global,
+    writer: W,
+) -> Result<OutBlocks<W>, NotRun>
+    ensures { IfOk result (λ out. out_blocks_held out ≡ []) }
+{
+    match Vec::with_capacity(alloc, BLOCK) {
+        Ok(block) => Ok(OutBlocks::new(block, writer)),
         Err(_) => Err(NotRun::Memory),
     }
 }

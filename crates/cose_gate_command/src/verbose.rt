@@ -1,9 +1,10 @@
 //! The run, with `--verbose` and `--quiet` or without.
-ghost use Rattle.std.specs.Prelude.{◌≡◌, ◌∷◌, [], option_copied};
+ghost use Rattle.std.specs.Prelude.{◌≡◌, ◌<◌, ◌∷◌, [], option_copied};
 ghost use Rattle.cose_gate_program.specs.Beginning.{aad_of, status_of};
 ghost use Rattle.cose_gate_program.specs.Judge.{says_yes};
 ghost use Rattle.cose_gate_program.specs.Program.{devices_of};
 ghost use Rattle.cose_gate_program.specs.Telling.{EndsTold};
+ghost use Rattle.cose_gate_program.specs.Writing.{HandedOn};
 ghost use Rattle.cose_gate_program.specs.declared.telling.Notice.TheVariants as notice;
 ghost use Rattle.cose_gate_command.specs.Ends.{bounds_by};
 ghost use Rattle.cose_gate_command.specs.RunLines.{Says};
@@ -64,6 +65,8 @@ pub(crate) fn run_asked<'f, 'd, R: Read, W: Write, E: Write>(
         (option_copied file.entry.bytes) err.old err.new) }
     ensures kept { R.handle input.new ≡ R.handle input.old }
     ensures lent { W.handle out.new ≡ W.handle out.old }
+    ensures handed { result < 2 → W.held out.new ≡ [] }
+    ensures lines { result < 2 → HandedOn E.Write err.old err.new }
 {
     let note = RefCell::new(Note::new(alloc, asked.verbose));
     let taken = Cell::new(0);

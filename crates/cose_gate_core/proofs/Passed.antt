@@ -130,7 +130,7 @@ module _ {T E : Type 0} (ends : E → Bool) (rules : ItemRules T) (n : ℕ) (sta
       inl (tag n (array k.0), i, refl, record { bytes = y.bytes; has = (reads, f y.bytes (array k.0) k.0 refl reads k.2); taken = y.taken; grown = y.grown })
 
 -- the bytes of an item that went through
-pub taken_of : {T E : Type 0} (ends : E → Bool) (rules : ItemRules T) (l l' : Option (List ℕ)) (p p' : ℕ) (s s' : ItemSight T) (v : Verdict) (w : Passes {E = E} ends rules l l' p p' s s' (Ok v))
+abbrev pub taken_of : {T E : Type 0} (ends : E → Bool) (rules : ItemRules T) (l l' : Option (List ℕ)) (p p' : ℕ) (s s' : ItemSight T) (v : Verdict) (w : Passes {E = E} ends rules l l' p p' s s' (Ok v))
     → Moves l l' p p' (λ (b : List ℕ). Reads b rules.limits.nesting w.0)
 taken_of ends rules l l' p p' s s' v w = record { bytes = w.1.bytes; has = w.1.has.0; taken = w.1.taken; grown = w.1.grown }
 

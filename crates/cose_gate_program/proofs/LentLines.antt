@@ -6,10 +6,10 @@ use Rattle.cose_gate_program.specs.Lines.{line_of, lines_of}
 use Rattle.cose_gate_program.specs.Writing.{Wrote, WroteSince, LentLines}
 use Rattle.cose_gate_program.specs.declared.telling.Notice.{Notice}
 
-abbrev speaks : {W : Type 0} → LentLines W → Notice → LentLines W
+abbrev pub speaks : {W : Type 0} → LentLines W → Notice → LentLines W
 speaks s notice = record s { told = s.told ++ notice ∷ [] }
 
-spoken_over : {W : Type 0} (s : LentLines W) (ns : List Notice) → folded_over speaks s ns ≡ record s { told = s.told ++ ns }
+pub spoken_over : {W : Type 0} (s : LentLines W) (ns : List Notice) → folded_over speaks s ns ≡ record s { told = s.told ++ ns }
 spoken_over s [] = ap (λ (z : List Notice). record s { told = z }) (sym (append-nil s.told))
 spoken_over s (n ∷ ns) = spoken_over (speaks s n) ns ∙ ap (λ (z : List Notice). record s { told = z }) (append_assoc s.told (n ∷ []) ns)
 

@@ -4,6 +4,7 @@ pub mod Found
 pub mod Headers
 pub mod Held
 pub mod LentLines
+pub mod Handed
 pub mod Moved
 pub mod Numbers
 pub mod Runs

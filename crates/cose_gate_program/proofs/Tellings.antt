@@ -1,6 +1,6 @@
 -- How the program ends, from what was told as its run went.
-use Rattle.std.proofs.Common.{◌≡◌, ℕ, List, [], ◌∷◌, ◌++◌, map, Option, Some, Bool, false, refl, sym, ap, subst, ◌∙◌}
-use Rattle.std.specs.Prelude.{Result}
+use Rattle.std.proofs.Common.{◌≡◌, ℕ, List, [], ◌∷◌, ◌++◌, map, Option, Some, Bool, false, ◌<◌, arith, refl, sym, ap, subst, ◌∙◌}
+use Rattle.std.specs.Prelude.{Result, Ok, Err, OnOk, is_ok}
 use Rattle.coset_labels.specs.Limits.{nesting, layers, nesting_of, layers_of}
 use Rattle.coset_labels.specs.Reading.{HasItem}
 use Rattle.coset_labels.specs.declared.limits.Limits.{Limits}
@@ -14,9 +14,12 @@ use Rattle.cose_gate_core.specs.declared.gating.GateFault.{GateFault}
 use Rattle.cose_gate_core.specs.declared.report.Entry.{Entry}
 use Rattle.coset_keys.specs.Fields.{KeyFields}
 use Rattle.coset_keys.specs.Keys.{HasKeySet}
+use Rattle.cose_gate_program.specs.Beginning.{status_of}
 use Rattle.cose_gate_program.specs.LentTeller.{LentTeller}
 use Rattle.cose_gate_program.specs.Program.{Devices, Shows}
 use Rattle.cose_gate_program.specs.Telling.{items_of, last_of, status_at, RanTold, EndsTold, not_begun, after_run}
+use Rattle.cose_gate_program.specs.declared.beginning.NotBegun.{NotBegun}
+use Rattle.cose_gate_program.specs.declared.beginning.NotBegun.TheVariants as unbegun
 use Rattle.cose_gate_program.specs.declared.devices.InputFault.{InputFault}
 use Rattle.cose_gate_program.specs.declared.telling.Notice.{Notice}
 use Rattle.cose_gate_program.specs.declared.telling.Notice.TheVariants.{Item}
@@ -94,3 +97,19 @@ began b d given ks held k a has e same r =
 -- the limits if none are chosen
 pub usually : (l : Limits) → (nesting_of l ≡ nesting) × (layers_of l ≡ layers) → limits_by l false ≡ usual
 usually l e = ap (λ (n : ℕ). within n (layers_of l) false) e.0 ∙ ap (λ (k : ℕ). within nesting k false) e.1
+
+-- after status 0 or 1 the output was flushed
+pub handed_on : {X F : Type 0} (answer : Result X F) (P : Type 0) (gated : Result Count (GateFault InputFault)) (flushed : Bool) (last : Notice) (status : ℕ)
+    → OnOk answer P → flushed ≡ is_ok answer → last ≡ last_of gated flushed → status ≡ status_at last → status < 2 → P
+handed_on (Ok x) P gated flushed last status ok same is st less = ok
+handed_on (Err e) P (Ok counts) flushed last status ok same is st less =
+    let four : status ≡ 4 = st ∙ ap status_at (is ∙ ap (last_of (Ok counts)) same) in absurd (omega (arith, four, less))
+handed_on (Err e) P (Err fault) flushed last status ok same is st less =
+    let four : status ≡ 4 = st ∙ ap status_at (is ∙ ap (last_of (Err fault)) same) in absurd (omega (arith, four, less))
+
+-- a run that doesn't begin has another
+pub not_ended : (P : Type 0) (why : NotBegun) (status : ℕ) → status ≡ status_of why → status < 2 → P
+not_ended P unbegun.NoFile status st less = absurd (omega (arith, st, less))
+not_ended P unbegun.NotHex status st less = absurd (omega (arith, st, less))
+not_ended P (unbegun.NoKeys e) status st less = absurd (omega (arith, st, less))
+not_ended P unbegun.Memory status st less = absurd (omega (arith, st, less))

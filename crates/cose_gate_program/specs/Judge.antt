@@ -9,10 +9,8 @@ use Rattle.cose_gate_core.specs.declared.about.MessageKind.TheVariants as kind
 use Rattle.cose_gate_program.specs.Judging.{secret_for, is_tag_under}
 
 abbrev pub is_mac0 : MessageKind → Bool
-is_mac0 kind.Sign1 = false
 is_mac0 kind.Mac0 = true
-is_mac0 kind.Sign = false
-is_mac0 kind.Mac = false
+is_mac0 k = false
 
 -- the secret that the tag of a COSE_Mac0 is made with; messages of other kinds have none
 abbrev pub secret_about : List KeyFields → Subject → Option (List ℕ)

@@ -1,11 +1,12 @@
 //! The lines of a run. A fault of what they are written to is ignored.
-ghost use Rattle.std.specs.Prelude.{◌≡◌, ◌≤◌, ◌++◌, ◌∷◌, [], List, length, codes};
+ghost use Rattle.std.specs.Prelude.{◌≡◌, ◌≤◌, ◌++◌, ◌∷◌, [], List, length, codes, true};
 ghost use Rattle.std.specs.Fmt.{decimal};
 ghost use Rattle.cose_gate_program.specs.Lines as spec;
 ghost use Rattle.cose_gate_program.specs.Lines.{line_of};
 ghost use Rattle.ciborium_ll.specs.declared.log.Log.{Log};
 ghost use Rattle.cose_gate_program.specs.Writing.{Wrote, WroteLines, WroteLines-prop};
-ghost use Rattle.cose_gate_program.specs.Writing.{LentLines};
+ghost use Rattle.cose_gate_program.specs.Writing.{LentLines, HandedOn, HandedSince, HandedSince-prop};
+ghost use Rattle.cose_gate_program.specs.Writing.{is_last as spec_last};
 
 use crate::beginning::NotBegun;
 use crate::devices::InputFault;
@@ -28,6 +29,25 @@ const DIGITS: usize = 20;
 
 /// Writes the line of a notice. The last line of a run is flushed, with those before it.
 pub fn write_notice<W: Write>(notice: &Notice, out: &mut W)
+    ensures wrote { Wrote W.Write out.old out.new (line_of notice.now) }
+    ensures handed { spec_last notice.now ≡ true → HandedOn W.Write out.old out.new }
+{
+    write_line(notice, out);
+    if !is_last(notice) {
+        return;
+    }
+    hand_on(out);
+}
+
+/// Whether a notice is the last of a run.
+fn is_last(notice: &Notice) -> bool
+    ensures { result ≡ spec_last notice.now }
+{
+    !matches!(notice, Notice::Item(_))
+}
+
+/// Writes the line of a notice.
+fn write_line<W: Write>(notice: &Notice, out: &mut W)
     ensures { Wrote W.Write out.old out.new (line_of notice.now) }
 {
     match notice {
@@ -75,7 +95,7 @@ fn write_counts<W: Write>(counts: Counts, out: &mut W)
     write_number(counts.passed, out);
     write(b", refused ", out);
     write_number(counts.refused, out);
-    write_last(b"\n", out);
+    write(b"\n", out);
 }
 
 /// The last line, which says what stopped the gate.
@@ -84,7 +104,7 @@ fn write_stopped<W: Write>(fault: &GateFault<InputFault>, out: &mut W)
 {
     write(b"stopped: ", out);
     write_fault(fault, out);
-    write_last(b"\n", out);
+    write(b"\n", out);
 }
 
 /// What stopped the gate.
@@ -137,7 +157,7 @@ fn write_not_begun<W: Write>(why: NotBegun, out: &mut W)
     ensures { Wrote W.Write out.old out.new (spec.not_begun_line why) }
 {
     write_reason(why, out);
-    write_last(b"\n", out);
+    write(b"\n", out);
 }
 
 /// Why the gate isn't run.
@@ -198,18 +218,12 @@ fn write<W: Write>(text: &[u8], out: &mut W)
     let _ = out.write_all(text);
 }
 
-/// Writes the end of the last line, and flushes the writer.
-fn write_last<W: Write>(text: &[u8], out: &mut W)
-    ensures { Wrote W.Write out.old out.new text.now }
-{
-    write(text, out);
-    let _ = out.flush();
-}
-
 /// Hands on the lines that a writer holds back.
 pub fn hand_on<W: Write>(out: &mut W)
-    ensures { (begun : Log W) (told : Log Notice) → WroteLines W.Write begun out.old told
+    ensures wrote { (begun : Log W) (told : Log Notice) → WroteLines W.Write begun out.old told
         → WroteLines W.Write begun out.new told }
+    ensures nothing { Wrote W.Write out.old out.new [] }
+    ensures handed { HandedOn W.Write out.old out.new }
 {
     let _ = out.flush();
 }
@@ -222,6 +236,7 @@ pub(crate) struct Lines<'a, W: Write> {
     told: &'a mut Log<Notice>,
     begun: Log<W>,
     ghost wrote: { WroteLines W.Write begun out.now told.now } by { WroteLines-prop W.Write _ _ _ },
+    ghost handed: { HandedSince W.Write begun.items out.now told.now.items } by { HandedSince-prop W.Write _ _ _ },
 }
 
 impl<'a, W: Write> Lines<'a, W> {
@@ -241,6 +256,8 @@ impl<'a, W: Write> Lines<'a, W> {
 pub fn write_logged<W: Write>(notice: &Notice, out: &mut W, told: &mut Log<Notice>)
     ensures wrote { (begun : Log W) → WroteLines W.Write begun out.old told.old
         → WroteLines W.Write begun out.new told.new }
+    ensures handed { (begun : Log W) → WroteLines W.Write begun out.old told.old
+        → HandedSince W.Write begun.items out.new told.new.items }
     ensures told { told.new.items ≡ told.old.items ++ notice.now ∷ [] }
 {
     write_notice(notice, out);

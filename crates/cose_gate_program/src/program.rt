@@ -1,5 +1,5 @@
 //! The program: the gate over one input, a line for each item, and one that says how it ended.
-ghost use Rattle.std.specs.Prelude.{◌≡◌, Some, option_copied};
+ghost use Rattle.std.specs.Prelude.{◌≡◌, ◌<◌, [], Some, option_copied};
 ghost use Rattle.cose_gate_core.specs.Findings.{usual};
 ghost use Rattle.cose_gate_core.specs.Terms.{limits_of};
 ghost use Rattle.cose_gate_program.specs.Beginning.{aad_of};
@@ -7,6 +7,7 @@ ghost use Rattle.cose_gate_program.specs.Judge.{says_yes};
 ghost use Rattle.cose_gate_program.specs.Program.{devices_of, hears};
 ghost use Rattle.cose_gate_program.specs.Telling as spec;
 ghost use Rattle.cose_gate_program.specs.Telling.{Gated, RanTold, EndsTold, tells, writes};
+ghost use Rattle.cose_gate_program.specs.Writing.{HandedOn};
 
 use crate::beginning::{begin, read_keys};
 use crate::devices::{Input, InputFault, Output};
@@ -75,6 +76,8 @@ pub fn run_judged<R: Read, W: Write, E: Write, J: Judge>(
     ensures who { J.who judge.new ≡ J.who judge.old }
     ensures kept { R.handle input.new ≡ R.handle input.old }
     ensures lent { W.handle out.new ≡ W.handle out.old }
+    ensures handed { result < 2 → W.held out.new ≡ [] }
+    ensures lines { HandedOn E.Write err.old err.new }
 {
     let mut told = Log::new();
     let mut lines = Lines::new(err, &mut told);
@@ -98,6 +101,7 @@ pub fn run_told<R: Read, W: Write, T: Teller, J: Judge>(
     ensures who { J.who judge.new ≡ J.who judge.old }
     ensures kept { R.handle input.new ≡ R.handle input.old }
     ensures lent { W.handle out.new ≡ W.handle out.old }
+    ensures handed { result < 2 → W.held out.new ≡ [] }
 {
     let gated = gate_told(alloc, terms, aad, input, out, teller, judge);
     let last = last_of(gated, out.flush().is_ok());
@@ -146,6 +150,8 @@ pub fn run_over<R: Read, W: Write, E: Write>(
         (writes E.Write err.old err.new) }
     ensures kept { R.handle input.new ≡ R.handle input.old }
     ensures lent { W.handle out.new ≡ W.handle out.old }
+    ensures handed { result < 2 → W.held out.new ≡ [] }
+    ensures lines { HandedOn E.Write err.old err.new }
 {
     let mut told = Log::new();
     let mut lines = Lines::new(err, &mut told);
@@ -168,6 +174,7 @@ pub fn run_over_told<R: Read, W: Write, T: Teller>(
         (tells T.Teller teller.old teller.new) }
     ensures kept { R.handle input.new ≡ R.handle input.old }
     ensures lent { W.handle out.new ≡ W.handle out.old }
+    ensures handed { result < 2 → W.held out.new ≡ [] }
 {
     match read_keys(alloc, keys) {
         Ok(set) => {
@@ -199,6 +206,8 @@ pub fn run_with<R: Read, W: Write, E: Write>(
         (writes E.Write err.old err.new) }
     ensures kept { R.handle input.new ≡ R.handle input.old }
     ensures lent { W.handle out.new ≡ W.handle out.old }
+    ensures handed { result < 2 → W.held out.new ≡ [] }
+    ensures lines { HandedOn E.Write err.old err.new }
 {
     match begin(alloc, keys, aad) {
         Ok(beginning) => {
@@ -245,6 +254,8 @@ pub fn run<R: Read, W: Write, E: Write>(
         (writes E.Write err.old err.new) }
     ensures kept { R.handle input.new ≡ R.handle input.old }
     ensures lent { W.handle out.new ≡ W.handle out.old }
+    ensures handed { result < 2 → W.held out.new ≡ [] }
+    ensures lines { HandedOn E.Write err.old err.new }
 {
     let terms = Terms {
         limits: Limits::default(),

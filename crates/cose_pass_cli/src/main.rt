@@ -5,8 +5,8 @@
 
 use ciborium_ll::Io;
 use cose_gate_command::{
-    Content, NotRun, asks_for_help, asks_for_version, ended, pass, pass_arguments, read_in_blocks,
-    words_of, write_help, write_in_blocks,
+    Content, NotRun, asks_for_help, asks_for_version, ended, hand_on_in_blocks, pass,
+    pass_arguments, read_in_blocks, words_of, write_help, write_in_blocks,
 };
 use cose_gate_program::{Blocks, has_stack};
 use std::process::ExitCode;
@@ -71,17 +71,17 @@ fn read_accepted(rt: &HostRuntime, words: &[String]) -> Result<Content, NotRun> 
 fn run(rt: &HostRuntime, words: &[String], accepted: Content) -> Result<u8, NotRun> {
     let alloc = rt.alloc();
     let input = read_in_blocks(alloc, rt.stdin())?;
-    let mut output = write_in_blocks(alloc, rt.stdout())?;
+    let mut output = hand_on_in_blocks(alloc, rt.stdout())?;
     let mut lines = write_in_blocks(alloc, rt.stderr())?;
     let end = pass(
         alloc,
         words,
         accepted.bytes,
         &mut Blocks::new(input),
-        &mut Io::new(&mut output),
+        &mut output,
         &mut Io::new(&mut lines),
     );
     // What a flush that failed has left isn't written as the program ends.
-    let _ = (output.into_parts(), lines.into_parts());
+    let _ = lines.into_parts();
     end
 }

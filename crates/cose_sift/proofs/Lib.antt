@@ -3,6 +3,7 @@ pub mod Steps
 pub mod Takes
 pub mod Readable
 pub mod TakenItem
+pub mod Deep
 pub mod ReadItem
 pub mod Untagged
 pub mod Sieve

@@ -13,7 +13,7 @@ use Rattle.cose_sift.specs.declared.sifting.Counts.{Counts}
 use Rattle.cose_sift.specs.declared.sifting.Options.{Options}
 use Rattle.cose_sift.specs.Reading.{IsUntold}
 use Rattle.cose_sift.specs.Sifting.{nothing, kept, dropped, Readably, IsUnreadable, Writes, HaltsAt, Halts}
-use Rattle.cose_sift.specs.Taking.{Held, IfKnown, ItemFails, IsPlace, failures_at, failures_after}
+use Rattle.cose_sift.specs.Taking.{Held, IfKnown, ItemFails, IsPlace, ItemDeepAt, most_of, failures_at, failures_after, writer_failures}
 use Rattle.cose_sift.specs.Untagging.{Content}
 use Rattle.cose_sift.specs.Walking.{IsOne, IsNothing}
 
@@ -50,17 +50,17 @@ pub ran_end : (o : Options) (old mid new : Seen) (w v u : Option (List ℕ)) (c 
 ran_end o old mid new w v u c d h r k f is same e =
     rw e (ran_whole o old.left mid.left w u c r.taken.bytes r.taken.taken (r.taken.has.0, r.taken.has.1, Appends-kept w v u r.taken.has.0 r.taken.has.2 k) ((subst (ItemFails mid new) is f).0 same))
 
-halts_at : (o : Options) (mid new : Seen) (v u : Option (List ℕ)) (h : Halt) → ItemFails mid new h → IsPlace mid new h → Keeps v u → (h ≡ halt.Decode stop.End → new.offset ≢ mid.offset) → HaltsAt o mid new v u h
-halts_at o mid new v u (halt.Decode s) f at k n = (f, at, k, λ e. n (ap (λ z. halt.Decode z) e))
-halts_at o mid new v u halt.Write f at k n = inl k
+halts_at : (o : Options) (mid new : Seen) (v u : Option (List ℕ)) (h : Halt) → ItemFails mid new h → IsPlace mid new h → ItemDeepAt (most_of o.max) mid new h → Keeps v u → (h ≡ halt.Decode stop.End → new.offset ≢ mid.offset) → HaltsAt o mid new v u h
+halts_at o mid new v u (halt.Decode s) f at d k n = (f, at, d, k, λ e. n (ap (λ z. halt.Decode z) e))
+halts_at o mid new v u halt.Write f at d k n = inl k
 
-pub ran_halts : (o : Options) (old mid new : Seen) (w v u : Option (List ℕ)) (c : Counts) (h : Halt) → Ran o old mid w v c → ItemFails mid new h → IsPlace mid new h → Keeps v u → (h ≡ halt.Decode stop.End → new.offset ≢ mid.offset) → Halts o old new w u h
-ran_halts o old mid new w v u c h r f at k n = record { mid = mid; written = v; counts = c; before = r.taken; why = halts_at o mid new v u h f at k n }
+pub ran_halts : (o : Options) (old mid new : Seen) (w v u : Option (List ℕ)) (c : Counts) (h : Halt) → Ran o old mid w v c → ItemFails mid new h → IsPlace mid new h → ItemDeepAt (most_of o.max) mid new h → Keeps v u → (h ≡ halt.Decode stop.End → new.offset ≢ mid.offset) → Halts o old new w u h
+ran_halts o old mid new w v u c h r f at d k n = record { mid = mid; written = v; counts = c; before = r.taken; why = halts_at o mid new v u h f at d k n }
 
 pub ran_memory : (o : Options) (old mid new : Seen) (w v u : Option (List ℕ)) (c : Counts) (h : Halt) (x : List ℕ) → Ran o old mid w v c → Takes mid new (λ y. (y ≡ x) × IsOne y × length y ≤ o.max)
     → (IsUntold h × Keeps v u) ⊎ ((h ≡ halt.Write) × Readably o.untag x (AppendsFront v u)) → Halts o old new w u h
-ran_memory o old mid new w v u c h x r t (inl (inl m, k)) = ran_halts o old mid new w v u c h r (subst (ItemFails mid new) (sym m) tt) (subst (IsPlace mid new) (sym m) tt) k (λ e. let k : halt.Decode stop.Memory ≡ halt.Decode stop.End = sym m ∙ e in cc)
-ran_memory o old mid new w v u c h x r t (inl (inr m, k)) = ran_halts o old mid new w v u c h r (subst (ItemFails mid new) (sym m) tt) (subst (IsPlace mid new) (sym m) tt) k (λ e. let k : halt.Decode stop.TooLong ≡ halt.Decode stop.End = sym m ∙ e in cc)
+ran_memory o old mid new w v u c h x r t (inl (inl m, k)) = ran_halts o old mid new w v u c h r (subst (ItemFails mid new) (sym m) tt) (subst (IsPlace mid new) (sym m) tt) (subst (ItemDeepAt (most_of o.max) mid new) (sym m) tt) k (λ e. let k : halt.Decode stop.Memory ≡ halt.Decode stop.End = sym m ∙ e in cc)
+ran_memory o old mid new w v u c h x r t (inl (inr m, k)) = ran_halts o old mid new w v u c h r (subst (ItemFails mid new) (sym m) tt) (subst (IsPlace mid new) (sym m) tt) (subst (ItemDeepAt (most_of o.max) mid new) (sym m) tt) k (λ e. let k : halt.Decode stop.TooLong ≡ halt.Decode stop.End = sym m ∙ e in cc)
 ran_memory o old mid new w v u c h x r t (inr f) = record {
   mid = mid;
   written = v;
@@ -100,21 +100,24 @@ pub ran_uncounted : (o : Options) (old mid new : Seen) (w v u : Option (List ℕ
     → MatchBool yes (Readably o.untag b (Appends v u)) (IsUnreadable o.untag b × Keeps v u) → h ≡ halt.Decode stop.TooLong → Halts o old new w u h
 ran_uncounted o old mid new w v u c h b true r t p e =
     let d : Counts = record { sifted = c.sifted + 1; dropped = c.dropped } in
-    ran_halts o old new new w u u d h (ran_kept o old mid new w v u c d b r t p refl refl) (subst (ItemFails new new) (sym e) tt) (subst (IsPlace new new) (sym e) tt) (Keeps-refl u) (λ q. let k : halt.Decode stop.TooLong ≡ halt.Decode stop.End = sym e ∙ q in cc)
-ran_uncounted o old mid new w v u c h b false r t p e = ran_halts o old mid new w v u c h r (subst (ItemFails mid new) (sym e) tt) (subst (IsPlace mid new) (sym e) tt) p.1 (λ q. let k : halt.Decode stop.TooLong ≡ halt.Decode stop.End = sym e ∙ q in cc)
+    ran_halts o old new new w u u d h (ran_kept o old mid new w v u c d b r t p refl refl) (subst (ItemFails new new) (sym e) tt) (subst (IsPlace new new) (sym e) tt) (subst (ItemDeepAt (most_of o.max) new new) (sym e) tt) (Keeps-refl u) (λ q. let k : halt.Decode stop.TooLong ≡ halt.Decode stop.End = sym e ∙ q in cc)
+ran_uncounted o old mid new w v u c h b false r t p e = ran_halts o old mid new w v u c h r (subst (ItemFails mid new) (sym e) tt) (subst (IsPlace mid new) (sym e) tt) (subst (ItemDeepAt (most_of o.max) mid new) (sym e) tt) p.1 (λ q. let k : halt.Decode stop.TooLong ≡ halt.Decode stop.End = sym e ∙ q in cc)
 
 pub if_ok_as : (P Q : Counts → Type 0) (r : Result Counts Halt) → IfOk r P → ((d : Counts) → P d → Q d) → IfOk r Q
 if_ok_as P Q (Ok d) p f = f d p
 if_ok_as P Q (Err h) p f = tt
 
-pub if_err_is : {N : Type 0} (Q : Halt → Type 0) (r : Result Counts Halt) (h : Halt) → IfErr r (λ e. (e ≡ h) × N) → (N → Q h) → IfErr r Q
-if_err_is Q (Ok d) h p q = tt
-if_err_is Q (Err e) h p q = subst Q (sym p.0) (q p.1)
+-- the output couldn't be handed on at the end
+pub ran_unwritten : (o : Options) (old mid new : Seen) (w v u : Option (List ℕ)) (c : Counts) (h : Halt) → Ran o old mid w v c → h ≡ halt.Write → Keeps v u → Halts o old new w u h
+ran_unwritten o old mid new w v u c h r e k = record { mid = mid; written = v; counts = c; before = r.taken; why = subst (HaltsAt o mid new v u) (sym e) (inl k) }
 
--- how often the reader has failed at the end
-pub ended_failures : (A B : Counts → Type 0) (N : Type 0) (r : Result Counts Halt) (h : Halt) (m n : ℕ) → m ≡ failures_at h n → IfOk r (λ c. A c × (h ≡ halt.Decode stop.End) × B c) → IfErr r (λ e. (e ≡ h) × N) → m ≡ failures_after r n
-ended_failures A B N (Ok d) h m n is p q = is ∙ ap (λ z. failures_at z n) p.1
-ended_failures A B N (Err e) h m n is p q = is ∙ ap (λ z. failures_at z n) (sym q.0)
+-- how often reader and writer have failed at the end
+pub end_failures : (r : Result Counts Halt) (h : Halt) (m n : ℕ) → m ≡ failures_at h n → h ≡ halt.Decode stop.End → IfErr r (λ e. e ≡ halt.Write) → m ≡ failures_after r n
+end_failures (Ok d) h m n is e q = is ∙ ap (λ z. failures_at z n) e
+end_failures (Err x) h m n is e q = is ∙ (ap (λ z. failures_at z n) e ∙ sym (ap (λ z. failures_at z n) q))
+
+pub end_written : (h : Halt) (m n : ℕ) → m ≡ writer_failures {T = Unit {0}} (Err h) n → h ≡ halt.Decode stop.End → m ≡ n
+end_written h m n is e = is ∙ ap (λ z. writer_failures {T = Unit {0}} (Err z) n) e
 
 pub passed_failures : (A B : Type 0) (h : Halt) (m n : ℕ) → m ≡ n → (IsUntold h × A) ⊎ ((h ≡ halt.Write) × B) → m ≡ failures_at h n
 passed_failures A B h m n is (inl (inl p, a)) = is ∙ ap (λ z. failures_at z n) (sym p)

@@ -3,7 +3,7 @@
 use Rattle.std.specs.Prelude.{◌≡◌, ℕ, zero, suc, ◌*◌, List, [], ◌∷◌, ◌++◌, length, Some, None, Bool, true, false}
 use Rattle.ciborium_ll.specs.Title.{Title}
 use Rattle.ciborium_ll.specs.declared.hdr.Header.{Header}
-use Rattle.ciborium_ll.specs.declared.hdr.Header.TheVariants.{Positive, Negative, Float, Simple, Tag, Break, Bytes, Text, Array, Map}
+use Rattle.ciborium_ll.specs.declared.hdr.Header.TheVariants.{Tag, Break, Bytes, Text, Array, Map}
 use Rattle.cose_sift.specs.declared.walk.Holds.{Holds}
 use Rattle.cose_sift.specs.declared.walk.Holds.TheVariants as holds
 use Rattle.cose_sift.specs.declared.walk.Next.{Next}
@@ -17,10 +17,6 @@ pub data After : Type 0 where
   nowhere : After
 
 abbrev pub after : Header → After
-after (Positive n) = stated 0 0
-after (Negative n) = stated 0 0
-after (Float f) = stated 0 0
-after (Simple n) = stated 0 0
 after (Tag n) = stated 0 1
 after (Bytes (Some n)) = stated n 0
 after (Text (Some n)) = stated n 0
@@ -31,6 +27,7 @@ after (Text None) = upto holds.Text
 after (Array None) = upto holds.Items
 after (Map None) = upto holds.Pairs
 after Break = nowhere
+after h = stated 0 0
 
 -- how many bytes of a string that is
 abbrev pub bytes_in : After → ℕ
@@ -49,10 +46,8 @@ IsNext h next.Nothing = h ≡ Break
 
 -- how many items come at a time in an open item, and which heads they may begin with
 abbrev pub size : Holds → ℕ
-size holds.Items = 1
 size holds.Pairs = 2
-size holds.Bytes = 1
-size holds.Text = 1
+size h = 1
 
 abbrev pub takes : Holds → Header → Bool
 takes holds.Items h = true

@@ -10,7 +10,7 @@ use Rattle.cose_sift.specs.declared.sifting.Counts.{Counts}
 use Rattle.cose_sift.specs.declared.sifting.Options.{Options}
 use Rattle.cose_sift.specs.declared.taking.Stop.TheVariants as stop
 use Rattle.cose_sift.specs.Reading.{IsReadable}
-use Rattle.cose_sift.specs.Taking.{ItemFails, IsPlace}
+use Rattle.cose_sift.specs.Taking.{ItemFails, IsPlace, ItemDeepAt, most_of}
 use Rattle.cose_sift.specs.Untagging.{Content}
 use Rattle.cose_sift.specs.Walking.{IsOne}
 
@@ -43,7 +43,9 @@ Writes o w w' counts b = (out : List ℕ) × Sifted o b out counts.sifted counts
 -- only inside an item
 abbrev pub HaltsAt : Options → (old new : Seen) (w w' : Option (List ℕ)) → Halt → Type 0
 HaltsAt o old new w w' (halt.Decode s) =
-    ItemFails old new (halt.Decode s) × IsPlace old new (halt.Decode s) × Keeps w w' × (s ≡ stop.End → new.offset ≢ old.offset)
+    ItemFails old new (halt.Decode s) × IsPlace old new (halt.Decode s)
+    × ItemDeepAt (most_of o.max) old new (halt.Decode s) × Keeps w w'
+    × (s ≡ stop.End → new.offset ≢ old.offset)
 HaltsAt o old new w w' halt.Write = Keeps w w' ⊎ Takes old new (λ x. Readably o.untag x (AppendsFront w w'))
 
 -- 0 if no item was left out, 1 if some were, and 4 if the run stopped

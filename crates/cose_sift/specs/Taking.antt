@@ -1,5 +1,5 @@
 -- An item that is taken head by head.
-use Rattle.std.specs.Prelude.{◌≡◌, ℕ, ◌+◌, ◌<◌, ◌≤◌, ◌⊎◌, List, ◌++◌, length, MatchBool, Bool, if◌then◌else◌, Option, Some, None, Result, Ok, Err}
+use Rattle.std.specs.Prelude.{◌≡◌, ℕ, ◌+◌, ◌/◌, ◌<◌, ◌≤◌, ◌⊎◌, List, ◌++◌, length, MatchBool, Bool, if◌then◌else◌, Option, Some, None, Result, Ok, Err}
 use Rattle.ciborium_ll.specs.Seen.{Seen, Takes}
 use Rattle.ciborium_ll.specs.Title.{Title, IsCut, StartsBad}
 use Rattle.ciborium_ll.specs.declared.hdr.Error.{Error}
@@ -13,7 +13,7 @@ use Rattle.cose_sift.specs.declared.taking.Taking.{Taking}
 use Rattle.cose_sift.specs.declared.walk.Fault.{Fault}
 use Rattle.cose_sift.specs.declared.walk.Fault.TheVariants as fault
 use Rattle.cose_sift.specs.Grammar.{Item}
-use Rattle.cose_sift.specs.Walking.{Then, Long, Refuses, IsNothing, wanted_by}
+use Rattle.cose_sift.specs.Walking.{Then, Long, Refuses, IsDeep, IsNothing, wanted_by}
 use Rattle.cose_sift.specs.Walking.{IsDue as IsWalking}
 
 -- what is due of the item
@@ -45,13 +45,8 @@ stop_of ends end code.Waiting = stop.Input
 
 -- how often the reader has failed after this: once more only if it says so
 abbrev pub failures_by : Stop → ℕ → ℕ
-failures_by (stop.Syntax p) n = n
-failures_by stop.End n = n
-failures_by stop.Cut n = n
-failures_by stop.Deep n = n
 failures_by stop.Input n = n + 1
-failures_by stop.TooLong n = n
-failures_by stop.Memory n = n
+failures_by e n = n
 
 abbrev pub failures_of : {T : Type 0} → Result T Stop → ℕ → ℕ
 failures_of (Ok x) n = n
@@ -65,6 +60,12 @@ abbrev pub failures_after : {T : Type 0} → Result T Halt → ℕ → ℕ
 failures_after (Ok x) n = n
 failures_after (Err h) n = failures_at h n
 
+-- how often the writer has failed after this: once more only if it says so
+abbrev pub writer_failures : {T : Type 0} → Result T Halt → ℕ → ℕ
+writer_failures (Ok x) n = n
+writer_failures (Err (halt.Decode s)) n = n
+writer_failures (Err halt.Write) n = n + 1
+
 -- why the walk stopped at a head
 abbrev pub stopped_at : ℕ → Fault → Stop
 stopped_at at fault.Syntax = stop.Syntax at
@@ -77,9 +78,7 @@ HeadFails old new (stop.Syntax p) = (p ≡ old.offset) × Takes old new StartsBa
 HeadFails old new stop.End = (new.offset ≡ old.offset) × IfKnown old.left IsNothing
 HeadFails old new stop.Cut = IfKnown old.left IsCut
 HeadFails old new stop.Deep = ⊥
-HeadFails old new stop.Input = Unit {0}
-HeadFails old new stop.TooLong = Unit {0}
-HeadFails old new stop.Memory = Unit {0}
+HeadFails old new e = Unit {0}
 
 -- one head, or bytes the first of which begins none
 abbrev pub IsHead : List ℕ → Type 0
@@ -90,21 +89,27 @@ abbrev pub StepFails : (List ℕ → Type 0) → Seen → Seen → Stop → Type
 StepFails P old new (stop.Syntax p) = (p ≡ old.offset) × Takes old new (λ x. IsHead x × Refuses P x)
 StepFails P old new stop.End = (new.offset ≡ old.offset) × IfKnown old.left IsNothing × BeginsNone P old.left
 StepFails P old new stop.Cut = BeginsNone P old.left
-StepFails P old new stop.Deep = Unit {0}
-StepFails P old new stop.Input = Unit {0}
-StepFails P old new stop.TooLong = Unit {0}
-StepFails P old new stop.Memory = Unit {0}
+StepFails P old new e = Unit {0}
 
 -- why no item was taken; the input was at its end if it ends before a head and nothing was taken
 abbrev pub ItemFails : Seen → Seen → Halt → Type 0
 ItemFails old new (halt.Decode (stop.Syntax p)) = (p ≤ new.offset) × Takes old new (Refuses Item)
 ItemFails old new (halt.Decode stop.End) = (new.offset ≡ old.offset → IfKnown old.left IsNothing) × BeginsNone Item old.left
 ItemFails old new (halt.Decode stop.Cut) = BeginsNone Item old.left
-ItemFails old new (halt.Decode stop.Deep) = Unit {0}
-ItemFails old new (halt.Decode stop.Input) = Unit {0}
-ItemFails old new (halt.Decode stop.TooLong) = Unit {0}
-ItemFails old new (halt.Decode stop.Memory) = Unit {0}
-ItemFails old new halt.Write = Unit {0}
+ItemFails old new e = Unit {0}
+
+-- so many items of indefinite length may be open in an item of which `max` bytes are kept
+abbrev pub most_of : ℕ → ℕ
+most_of max = 256 + max / 16
+
+-- more are open in one of which P is due, or too many items are due
+abbrev pub DeepAt : (List ℕ → Type 0) → ℕ → Seen → Seen → Stop → Type 0
+DeepAt P most old new stop.Deep = Takes old new (IsDeep P most)
+DeepAt P most old new other = Unit {0}
+
+abbrev pub ItemDeepAt : ℕ → Seen → Seen → Halt → Type 0
+ItemDeepAt most old new (halt.Decode s) = DeepAt Item most old new s
+ItemDeepAt most old new halt.Write = Unit {0}
 
 -- no item begins with `x`, though one does with its first n bytes, after which it is one head, or
 -- bytes the first of which begins none
@@ -120,10 +125,4 @@ pub record StopsAt (n : ℕ) (x : List ℕ) : Type 0 where
 -- the place that a syntax fault names
 abbrev pub IsPlace : Seen → Seen → Halt → Type 0
 IsPlace old new (halt.Decode (stop.Syntax p)) = (n : ℕ) × (p ≡ old.offset + n) × Takes old new (StopsAt n)
-IsPlace old new (halt.Decode stop.End) = Unit {0}
-IsPlace old new (halt.Decode stop.Cut) = Unit {0}
-IsPlace old new (halt.Decode stop.Deep) = Unit {0}
-IsPlace old new (halt.Decode stop.Input) = Unit {0}
-IsPlace old new (halt.Decode stop.TooLong) = Unit {0}
-IsPlace old new (halt.Decode stop.Memory) = Unit {0}
-IsPlace old new halt.Write = Unit {0}
+IsPlace old new e = Unit {0}

@@ -1,5 +1,6 @@
 -- What is to come while the heads of an item are taken.
-use Rattle.std.specs.Prelude.{◌≡◌, ◌≢◌, ℕ, List, [], ◌∷◌, ◌++◌, length, reverse, Option, Some, None}
+use Rattle.std.specs.Prelude.{◌≡◌, ◌≢◌, ◌<◌, ◌≤◌, ◌^◌, ◌⊎◌, ℕ, List, [], ◌∷◌, ◌++◌, length, reverse, Option, Some, None, nat_eq}
+use Rattle.std.specs.List.{count_by}
 use Rattle.cose_sift.specs.declared.walk.Fault.{Fault}
 use Rattle.cose_sift.specs.declared.walk.Fault.TheVariants as fault
 use Rattle.cose_sift.specs.declared.walk.Holds.{Holds}
@@ -35,9 +36,9 @@ wanted_by w = Wants w.holds w.due (reverse w.levels.items)
 abbrev pub IsDue : Walk → Type 0
 IsDue w = w.due ≡ 0 → w.holds ≢ None
 
--- each open item has what is around it
+-- each open item has what is around it, and nothing else has
 abbrev pub IsAround : Option Holds → List Level → Type 0
-IsAround None ls = Unit {0}
+IsAround None ls = ls ≡ []
 IsAround (Some k) [] = ⊥
 IsAround (Some k) (l ∷ ls) = IsAround l.holds ls
 
@@ -70,6 +71,23 @@ abbrev pub IfSyntax : Type 0 → Fault → Type 0
 IfSyntax P fault.Syntax = P
 IfSyntax P fault.Deep = Unit {0}
 IfSyntax P fault.Memory = Unit {0}
+
+-- the same if it is that too many items are open or due
+abbrev pub IfDeep : Type 0 → Fault → Type 0
+IfDeep P fault.Syntax = Unit {0}
+IfDeep P fault.Deep = P
+IfDeep P fault.Memory = Unit {0}
+
+-- how many of these bytes may be breaks: each item of indefinite length ends with one (RFC 8949,
+-- section 3.2.1)
+abbrev pub breaks : List ℕ → ℕ
+breaks b = count_by (nat_eq 255) b
+
+-- bytes that begin with `x` are P, and all that do so go on with more than `most` breaks, of which
+-- each item of indefinite length that is open after `x` needs one, or with 2^64 bytes or more
+pub record IsDeep (P : List ℕ → Type 0) (most : ℕ) (x : List ℕ) : Type 0 where
+  pub begins : (rest : List ℕ) × P (x ++ rest)
+  pub deep : (rest : List ℕ) → P (x ++ rest) → (most < breaks rest) ⊎ (2 ^ 64 ≤ length rest)
 
 abbrev pub IsNothing : List ℕ → Type 0
 IsNothing b = b ≡ []

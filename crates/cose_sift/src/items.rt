@@ -6,6 +6,7 @@ ghost use Rattle.ciborium_ll.specs.Views.{waiting_of, seen};
 ghost use Rattle.cose_sift.specs.Grammar.{Item};
 ghost use Rattle.cose_sift.specs.Walking.{Goes, IsOne, IsSound};
 ghost use Rattle.cose_sift.specs.Taking.{due_by, IsDue, Held, ItemFails, IsPlace, failures_after};
+ghost use Rattle.cose_sift.specs.Taking.{writer_failures, ItemDeepAt};
 ghost use Rattle.cose_sift.specs.declared.items.Halt.TheVariants as halt;
 
 use crate::taking::{Stop, Taking};
@@ -33,6 +34,7 @@ fn hand_on<R: Read, W: Write, E: Write>(
     ensures out { Keeps (W.written out.old) (W.written out.new) }
     ensures lines { Keeps (E.written lines.old) (E.written lines.new) }
     ensures err { IfErr result (λ fault. fault ≡ halt.Write) }
+    ensures writer { W.failed out.new ≡ writer_failures result (W.failed out.old) }
 {
     if decoder.held().len() >= HEAD {
         return Ok(());
@@ -70,6 +72,10 @@ pub fn take_item<R: Read, W: Write, E: Write>(
     ensures out { Keeps (W.written out.old) (W.written out.new) }
     ensures lines { Keeps (E.written lines.old) (E.written lines.new) }
     ensures max { taking.new.max ≡ taking.old.max }
+    ensures most { taking.new.walk.most ≡ taking.old.walk.most }
+    ensures deep { IsSound taking.old.walk → IfErr result (ItemDeepAt taking.old.walk.most
+        (seen R.Read decoder.old) (seen R.Read decoder.new)) }
+    ensures writer { W.failed out.new ≡ writer_failures result (W.failed out.old) }
 {
     'steps: for _ in 0..u64::MAX {
         match hand_on(decoder, out, lines) {

@@ -12,13 +12,11 @@ mod taking;
 mod untagging;
 mod walk;
 
-use crate::items::Halt;
-use crate::lines::write_end;
-use crate::sifting::{Counts, Options, sift};
-use ciborium_ll::{Decoder, Io, Write};
+use crate::sifting::{Options, sift_told};
+use ciborium_ll::{Decoder, Io};
 use cose_gate_command::{
-    NotRun, asks_for_help, asks_for_version, ended, read_in_blocks, words_of, write_help,
-    write_in_blocks,
+    NotRun, asks_for_help, asks_for_version, ended, hand_on_in_blocks, read_in_blocks, words_of,
+    write_help, write_in_blocks,
 };
 use cose_gate_program::{Blocks, has_stack};
 use std::env;
@@ -92,22 +90,12 @@ fn options_of(words: &[String]) -> Option<Options> {
 fn run(rt: &HostRuntime, options: Options) -> Result<u8, NotRun> {
     let alloc = rt.alloc();
     let input = read_in_blocks(alloc, rt.stdin())?;
-    let mut output = write_in_blocks(alloc, rt.stdout())?;
+    let mut out = hand_on_in_blocks(alloc, rt.stdout())?;
     let mut lines = write_in_blocks(alloc, rt.stderr())?;
     let mut decoder = Decoder::from(Blocks::new(input));
-    let mut out = Io::new(&mut output);
     let mut told = Io::new(&mut lines);
-    let end = sift(alloc, options, &mut decoder, &mut out, &mut told);
-    let status = write_end(flushed(end, &mut out), &mut told);
+    let status = sift_told(alloc, options, &mut decoder, &mut out, &mut told);
     // What a flush that failed has left isn't written as the program ends.
-    let _ = (output.into_parts(), lines.into_parts());
+    let _ = lines.into_parts();
     Ok(status)
-}
-
-/// How a run ended whose output is flushed now.
-fn flushed<W: Write>(end: Result<Counts, Halt>, out: &mut W) -> Result<Counts, Halt> {
-    match out.flush() {
-        Ok(()) => end,
-        Err(_) => Err(Halt::Write),
-    }
 }

@@ -1,18 +1,20 @@
 //! The items that can be read.
-ghost use Rattle.std.specs.Prelude.{◌≡◌, ◌≢◌, None, true, false, IfOk, IfErr, MatchBool, ◌⊎◌, ◌+◌};
+ghost use Rattle.std.specs.Prelude.{◌≡◌, ◌≢◌, ◌<◌, [], Ok, None, true, false, IfOk, OnOk, IfErr, MatchBool};
+ghost use Rattle.std.specs.Prelude.{◌⊎◌, ◌+◌};
 ghost use Rattle.std.specs.Io.KnownBytes.{Keeps, Appends};
 ghost use Rattle.ciborium_ll.specs.Device.{AppendsFront};
 ghost use Rattle.ciborium_ll.specs.Views.{waiting_of, seen};
 ghost use Rattle.ciborium_ll.specs.Views.{left_of};
 ghost use Rattle.cose_sift.specs.Reading.{IsUntold};
-ghost use Rattle.cose_sift.specs.Sifting.{Readably, IsUnreadable, Writes, Halts};
-ghost use Rattle.cose_sift.specs.Taking.{IfKnown, failures_after};
+ghost use Rattle.cose_sift.specs.Sifting.{Readably, IsUnreadable, Writes, Halts, status_of};
+ghost use Rattle.cose_sift.specs.Taking.{IfKnown, failures_after, writer_failures};
 ghost use Rattle.cose_sift.specs.Walking.{IsOne};
 ghost use Rattle.cose_sift.specs.declared.items.Halt.TheVariants as halt;
+ghost use Rattle.cose_sift.specs.declared.sifting.Counts.{Counts};
 ghost use Rattle.cose_sift.specs.declared.taking.Stop.TheVariants as stop;
 
 use crate::items::{Halt, take_item};
-use crate::lines::write_left_out;
+use crate::lines::{write_end, write_left_out};
 use crate::reading::is_readable;
 use crate::taking::{Stop, Taking};
 use crate::untagging::content_of;
@@ -78,6 +80,20 @@ fn ended(fault: Halt, from: usize, to: usize, counts: Counts) -> Result<Counts, 
     }
 }
 
+/// Hands on what the output holds back at the end of a run.
+fn handed_on<W: Write>(counts: Counts, out: &mut W) -> Result<Counts, Halt>
+    ensures ok { IfOk result (λ c. c ≡ counts) }
+    ensures err { IfErr result (λ h. h ≡ halt.Write) }
+    ensures out { Keeps (W.written out.old) (W.written out.new) }
+    ensures handed { OnOk result (W.held out.new ≡ []) }
+    ensures writer { W.failed out.new ≡ writer_failures result (W.failed out.old) }
+{
+    match out.flush() {
+        Ok(()) => Ok(counts),
+        Err(_) => Err(Halt::Write),
+    }
+}
+
 /// Writes what is to be written of the item if that can be read, and says whether it was written.
 fn pass<W: Write>(alloc: Global, untag: bool, item: &[u8], out: &mut W) -> Result<bool, Halt>
     requires { IsOne item.now }
@@ -88,6 +104,7 @@ fn pass<W: Write>(alloc: Global, untag: bool, item: &[u8], out: &mut W) -> Resul
         (IsUntold h × Keeps (W.written out.old) (W.written out.new))
         ⊎ ((h ≡ halt.Write)
         × Readably «untag» item.now (AppendsFront (W.written out.old) (W.written out.new)))) }
+    ensures writer { W.failed out.new ≡ writer_failures result (W.failed out.old) }
 {
     let content = content_of(untag, item);
     match is_readable(alloc, content) {
@@ -103,7 +120,7 @@ fn pass<W: Write>(alloc: Global, untag: bool, item: &[u8], out: &mut W) -> Resul
 
 /// Writes the items that have no more than `max` bytes and can be read, in order, byte for byte but
 /// for the tags that are taken off, and a line for each of the others. Before it waits for input it
-/// flushes.
+/// flushes, and at the end of the input.
 ///
 /// # Errors
 /// `Decode` if no item goes on where the input isn't at its end, and `Write`.
@@ -121,6 +138,8 @@ pub fn sift<R: Read, W: Write, E: Write>(
         (seen R.Read decoder.new) (W.written out.old) (W.written out.new)) }
     ensures failed { (seen R.Read decoder.new).failed
         ≡ failures_after result (seen R.Read decoder.old).failed }
+    ensures writer { W.failed out.new ≡ writer_failures result (W.failed out.old) }
+    ensures handed { OnOk result (W.held out.new ≡ []) }
 {
     let mut taking = Taking::new(alloc, options.max);
     let mut counts = Counts {
@@ -131,7 +150,10 @@ pub fn sift<R: Read, W: Write, E: Write>(
         let at = decoder.offset();
         match take_item(alloc, &mut taking, decoder, out, lines) {
             Ok(()) => {}
-            Err(halt) => return ended(halt, at, decoder.offset(), counts),
+            Err(halt) => match ended(halt, at, decoder.offset(), counts) {
+                Ok(counts) => return handed_on(counts, out),
+                Err(halt) => return Err(halt),
+            },
         }
         let is_sifted = match taking.bytes() {
             Some(item) => match pass(alloc, options.untag, item, out) {
@@ -150,4 +172,38 @@ pub fn sift<R: Read, W: Write, E: Write>(
         taking.restart();
     }
     Err(Halt::Decode(Stop::TooLong))
+}
+
+/// How a run ended, once what was written up to a stop is handed on.
+fn stopped<W: Write>(end: Result<Counts, Halt>, out: &mut W) -> Result<Counts, Halt>
+    ensures ok { OnOk «end» ((result ≡ «end») × (out.new ≡ out.old)) }
+    ensures err { IfErr «end» (λ halt. IfOk result (λ counts. ⊥)) }
+{
+    let Err(halt) = end else {
+        return end;
+    };
+    if out.flush().is_err() {
+        return Err(Halt::Write);
+    }
+    Err(halt)
+}
+
+/// `sift`, and then the last line. The status is 0 if no item was left out, 1 if some were, and 4
+/// if the run stopped. What was written is handed on before that line.
+pub fn sift_told<R: Read, W: Write, E: Write>(
+    alloc: Global,
+    options: Options,
+    decoder: &mut Decoder<R>,
+    out: &mut W,
+    lines: &mut E,
+) -> u8
+    requires fresh { waiting_of decoder.old ≡ None }
+    ensures sifted { result < 2 → (counts : Counts) × (result ≡ status_of (Ok counts))
+        × IfKnown (left_of R.left decoder.old)
+        (Writes «options» (W.written out.old) (W.written out.new) counts) }
+    ensures handed { result < 2 → W.held out.new ≡ [] }
+    ensures writer { result < 2 → W.failed out.new ≡ W.failed out.old }
+{
+    let end = sift(alloc, options, decoder, out, lines);
+    write_end(stopped(end, out), lines)
 }

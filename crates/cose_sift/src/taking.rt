@@ -1,5 +1,5 @@
 //! One item of a sequence, taken head by head.
-ghost use Rattle.std.specs.Prelude.{◌≡◌, ◌++◌, ◌<◌, ◌≤◌, ℕ, List, [], None, true, false};
+ghost use Rattle.std.specs.Prelude.{◌≡◌, ◌≢◌, ◌++◌, ◌<◌, ◌≤◌, ℕ, List, [], None, true, false};
 ghost use Rattle.std.specs.Prelude.{OnOk, IfOk, IfErr, IfSome, IfNone, length, get_or, ◌+◌};
 ghost use Rattle.ciborium_ll.specs.Seen.{Takes};
 ghost use Rattle.ciborium_ll.specs.Title.{Title, StartsBad, bytes_after};
@@ -7,8 +7,8 @@ ghost use Rattle.ciborium_ll.specs.Views.{waiting_of, seen};
 ghost use Rattle.cose_sift.specs.Grammar.{Item, body_of};
 ghost use Rattle.cose_sift.specs.Walking.{Goes, IsNothing, IsSound};
 ghost use Rattle.cose_sift.specs.Taking.{due_by, IsDue, Held, HeadFails, StepFails, stop_of};
-ghost use Rattle.cose_sift.specs.Taking.{stopped_at, failures_of};
-ghost use Rattle.cose_sift.specs.declared.taking.Stop.TheVariants.{Memory};
+ghost use Rattle.cose_sift.specs.Taking.{stopped_at, failures_of, most_of, DeepAt};
+ghost use Rattle.cose_sift.specs.declared.taking.Stop.TheVariants.{Deep, Memory};
 
 use crate::walk::{Fault, Walk};
 use ciborium_ll::{Decoder, Error, Header, Read};
@@ -56,7 +56,8 @@ pub struct Taking {
 
 /// Why a read failed; `end` if the input ended.
 fn read_fault<R: Read>(error: Error<R::Error>, end: Stop) -> Stop
-    ensures { result ≡ stop_of R.ends «end» error }
+    ensures fault { result ≡ stop_of R.ends «end» error }
+    ensures deep { «end» ≢ Deep → result ≢ Deep }
 {
     match error {
         Error::Io(e) => { if R::is_end(&e) { end } else { Stop::Input } }
@@ -153,9 +154,10 @@ impl Taking {
         ensures held { Held result [] }
         ensures max { result.max ≡ «max» }
         ensures sound { IsSound result.walk }
+        ensures most { result.walk.most ≡ most_of «max» }
     {
         Taking {
-            walk: Walk::new(alloc, LEVELS.saturating_add(max / LEVEL)),
+            walk: Walk::new(alloc, LEVELS + max / LEVEL),
             body: 0,
             bytes: Vec::new(alloc),
             is_long: false,
@@ -170,6 +172,7 @@ impl Taking {
         ensures held { Held self.new [] }
         ensures max { self.new.max ≡ self.old.max }
         ensures sound { IsSound self.new.walk }
+        ensures most { self.new.walk.most ≡ self.old.walk.most }
     {
         self.walk.restart();
         self.body = 0;
@@ -238,6 +241,9 @@ impl Taking {
         ensures fresh { waiting_of decoder.new ≡ None }
         ensures max { self.new.max ≡ self.old.max }
         ensures sound { OnOk result (IsSound self.old.walk → IsSound self.new.walk) }
+        ensures deep { IsSound self.old.walk → IfErr result (DeepAt (due_by self.old)
+            self.old.walk.most (seen R.Read decoder.old) (seen R.Read decoder.new)) }
+        ensures most { self.new.walk.most ≡ self.old.walk.most }
     {
         if self.body > 0 {
             return self.take_body(decoder);
@@ -270,6 +276,7 @@ impl Taking {
         ensures fresh { waiting_of decoder.new ≡ None }
         ensures max { self.new.max ≡ self.old.max }
         ensures walk { self.new.walk ≡ self.old.walk }
+        ensures deep { IfErr result (λ stop. stop ≢ Deep) }
     {
         let mut piece = [0; PIECE];
         let len = decoder.held().len().clamp(1, PIECE).min(self.body as usize);

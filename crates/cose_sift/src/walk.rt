@@ -1,12 +1,13 @@
 //! The heads of one item.
-ghost use Rattle.std.specs.Prelude.{◌≡◌, ◌≢◌, ◌<◌, ◌+◌, ◌∷◌, ℕ, List, [], reverse, None, Some};
-ghost use Rattle.std.specs.Prelude.{OnOk, IfErr, IfSome, true, false};
+ghost use Rattle.std.specs.Prelude.{◌≡◌, ◌≢◌, ◌<◌, ◌≤◌, ◌^◌, ◌+◌, ◌∷◌, ℕ, List, [], length, reverse};
+ghost use Rattle.std.specs.Prelude.{None, Some, OnOk, OnErr, IfErr, IfSome, IfNone, true, false};
 ghost use Rattle.ciborium_ll.specs.Title.{Title};
 ghost use Rattle.ciborium_ll.specs.declared.hdr.Header.TheVariants.{Break};
-ghost use Rattle.cose_sift.specs.Grammar.{takes, size, body_of, IsNext, Item};
-ghost use Rattle.cose_sift.specs.declared.walk.Fault.TheVariants.{Deep};
+ghost use Rattle.cose_sift.specs.Grammar.{takes, size, body_of, after, stated, IsNext, Item};
+ghost use Rattle.cose_sift.specs.declared.walk.Fault.TheVariants.{Deep, Syntax};
 ghost use Rattle.cose_sift.specs.Walking.{Long, Then, Goes, Refuses, Agrees};
-ghost use Rattle.cose_sift.specs.Walking.{IfSyntax, wanted_by, IsDue, IsSound, IsNothing};
+ghost use Rattle.cose_sift.specs.Walking.{IfSyntax, IfDeep, IsDeep, wanted_by, IsDue, IsSound};
+ghost use Rattle.cose_sift.specs.Walking.{IsNothing};
 
 use ciborium_ll::Header;
 use std::alloc::Global;
@@ -82,7 +83,8 @@ impl Holds {
 
 /// What this head says; nothing if it claims more items than are counted.
 fn next_of(header: Header) -> Option<Next>
-    ensures { IfSome result (IsNext header) }
+    ensures some { IfSome result (IsNext header) }
+    ensures none { IfNone result ((n : ℕ) × (after header ≡ stated 0 n) × (2 ^ 64 ≤ n)) }
 {
     match header {
         Header::Positive(_) => Some(Next::Items(0)),
@@ -120,6 +122,7 @@ impl Walk {
         ensures starts { Goes Item (wanted_by result) [] }
         ensures due { IsDue result }
         ensures sound { IsSound result }
+        ensures most { result.most ≡ «most» }
     {
         Walk {
             holds: None,
@@ -134,6 +137,7 @@ impl Walk {
         ensures starts { Goes Item (wanted_by self.new) [] }
         ensures due { IsDue self.new }
         ensures sound { IsSound self.new }
+        ensures most { self.new.most ≡ self.old.most }
     {
         self.holds = None;
         self.due = 1;
@@ -160,6 +164,9 @@ impl Walk {
         ensures syntax { IfErr result (IfSyntax ((title : List ℕ) → Title title header
             → Refuses (wanted_by self.old) title)) }
         ensures sound { OnOk result (IsSound self.old → IsSound self.new) }
+        ensures deep { IsSound self.old → IfErr result (IfDeep ((title : List ℕ)
+            → Title title header → IsDeep (wanted_by self.old) self.old.most title)) }
+        ensures most { self.new.most ≡ self.old.most }
     {
         if self.due > 0 {
             return self.take_item(header);
@@ -180,6 +187,9 @@ impl Walk {
         ensures syntax { IfErr result (IfSyntax ((title : List ℕ) → Title title header
             → Refuses (wanted_by self.old) title)) }
         ensures sound { OnOk result (IsSound self.old → IsSound self.new) }
+        ensures deep { IsSound self.old → IfErr result (IfDeep ((title : List ℕ)
+            → Title title header → IsDeep (wanted_by self.old) self.old.most title)) }
+        ensures most { self.new.most ≡ self.old.most }
     {
         self.due -= 1;
         match next_of(header) {
@@ -196,6 +206,8 @@ impl Walk {
         ensures holds { self.new.holds ≡ self.old.holds }
         ensures levels { self.new.levels ≡ self.old.levels }
         ensures deep { IfErr result (λ f. f ≡ Deep) }
+        ensures over { OnErr result (2 ^ 64 ≤ n + self.old.due) }
+        ensures most { self.new.most ≡ self.old.most }
     {
         match self.due.checked_add(n) {
             Some(due) => self.due = due,
@@ -210,6 +222,8 @@ impl Walk {
             × (reverse self.new.levels.items ≡ record { holds = self.old.holds; due = self.old.due }
             ∷ reverse self.old.levels.items)) }
         ensures fault { IfErr result (IfSyntax ⊥) }
+        ensures deep { IfErr result (IfDeep (self.old.most ≤ length self.old.levels.items)) }
+        ensures most { self.new.most ≡ self.old.most }
     {
         if self.levels.len() >= self.most {
             return Err(Fault::Deep);
@@ -235,6 +249,8 @@ impl Walk {
         ensures syntax { IfErr result (IfSyntax ((title : List ℕ) → Title title Break
             → Refuses (wanted_by self.old) title)) }
         ensures sound { OnOk result (IsSound self.old → IsSound self.new) }
+        ensures fault { IfErr result (λ f. f ≡ Syntax) }
+        ensures most { self.new.most ≡ self.old.most }
     {
         let Some(level) = self.levels.pop() else {
             return Err(Fault::Syntax);
@@ -255,6 +271,8 @@ impl Walk {
         ensures syntax { IfErr result (IfSyntax ((title : List ℕ) → Title title header
             → Refuses (wanted_by self.old) title)) }
         ensures sound { OnOk result (IsSound self.old → IsSound self.new) }
+        ensures fault { IfErr result (λ f. f ≡ Syntax) }
+        ensures most { self.new.most ≡ self.old.most }
     {
         let Some(holds) = self.holds else {
             return Err(Fault::Syntax);

@@ -56,11 +56,11 @@ module _ {W F : Type 0} (allows : Question → Bool) (aad : List ℕ) (w : Writi
     known_as l _ _ (λ b t. subst (λ (n : ℕ). Tells is_end (Unstreamed n b) (IsLongFor 4096 0 b) (fault.Decode (error_of ends e))) (zero-add (length b)) (told_small ends (Unstreamed (0 + length b) b) (IsLongFor 4096 0 b) e t)) k,
     p,
   )
-  stops_at ends l fault.NotTagged p k = (known_as l _ _ (λ b t. (untagged, refl, subst (λ (n : ℕ). Unstreamed n b untagged) (zero-add (length b)) t)) k, p)
-  stops_at ends l (fault.OtherTag n) p k = (known_as l _ _ (λ b t. (tagged n, (n, refl), subst (λ (m : ℕ). Unstreamed m b (tagged n)) (zero-add (length b)) t)) k, p)
-  stops_at ends l (fault.Shape e) p k = (known_as l _ _ (λ b t. (shape (fault_of e), (fault_of e, refl), subst (λ (n : ℕ). Unstreamed n b (shape (fault_of e))) (zero-add (length b)) t)) k, p)
-  stops_at ends l fault.Detached p k = (known_as l _ _ (λ b t. (without_payload, refl, subst (λ (n : ℕ). Unstreamed n b without_payload) (zero-add (length b)) t)) k, p)
-  stops_at ends l fault.Unsized p k = (known_as l _ _ (λ b t. (without_length, refl, subst (λ (n : ℕ). Unstreamed n b without_length) (zero-add (length b)) t)) k, p)
+  stops_at ends l fault.NotTagged p k = (known_as l _ _ (λ b t. (untagged, refl, subst (λ (n : ℕ). Unstreamed n b untagged) (zero-add (length b)) t)) k, p, tt)
+  stops_at ends l (fault.OtherTag n) p k = (known_as l _ _ (λ b t. (tagged n, (n, refl), subst (λ (m : ℕ). Unstreamed m b (tagged n)) (zero-add (length b)) t)) k, p, tt)
+  stops_at ends l (fault.Shape e) p k = (known_as l _ _ (λ b t. (shape (fault_of e), (fault_of e, refl), subst (λ (n : ℕ). Unstreamed n b (shape (fault_of e))) (zero-add (length b)) t)) k, p, tt)
+  stops_at ends l fault.Detached p k = (known_as l _ _ (λ b t. (without_payload, refl, subst (λ (n : ℕ). Unstreamed n b without_payload) (zero-add (length b)) t)) k, p, tt)
+  stops_at ends l fault.Unsized p k = (known_as l _ _ (λ b t. (without_length, refl, subst (λ (n : ℕ). Unstreamed n b without_length) (zero-add (length b)) t)) k, p, tt)
   stops_at ends l fault.Memory p k = p
 
   pub stops : {E : Type 0} (ends : E → Bool) (levels layers' : ℕ) (from l : Option (List ℕ)) (o : ℕ) (f : StreamFault E) → levels ≡ nesting → layers' ≡ layers → from ≡ l → o ≡ 0
@@ -89,6 +89,11 @@ pub all_written : {W F : Type 0} (w : Writing W F) (out mid out' : W) (r : Resul
     → Keeps (w.written mid) (w.written out') → w.failed out' ≡ w.failed mid → (w.failed out' ≡ w.failed out) × Appends (w.written out) (w.written out') text
 all_written w out mid out' (Ok u) text e p k n = (n ∙ p.failed, Appends-kept (w.written out) (w.written mid) (w.written out') text p.ok k)
 all_written w out mid out' (Err x) text e p k n = absurd (true≢false (sym e))
+
+-- a text that was written
+pub not_failed : {W F : Type 0} (w : Writing W F) (out out' : W) (r : Result (Unit {0}) F) (text : List ℕ) → false ≡ is_err r → WritesAll w out out' r text → w.failed out' ≡ w.failed out
+not_failed w out out' (Ok u) text e p = p.failed
+not_failed w out out' (Err x) text e p = absurd (true≢false (sym e))
 
 -- the writer failed, at the payload or when that was handed on
 pub failed_once : {W F : Type 0} (w : Writing W F) (out out' : W) (r : Result (Unit {0}) F) (text : List ℕ) → true ≡ is_err r → WritesAll w out out' r text → w.failed out' ≡ w.failed out + 1

@@ -42,11 +42,9 @@ end_line (Err (stop.NoFile why)) = codes "stopped: write\n"
 
 -- the line after it, which says why KEYS can't be used, or why there is no file for the payload
 abbrev pub why_line : List ℕ → Option (List ℕ) → Result (Unit {0}) StreamStop → List ℕ
-why_line fault keys (Ok u) = []
 why_line fault keys (Err (stop.NotBegun why)) = reason_line fault keys why
-why_line fault keys (Err (stop.Refused why)) = []
-why_line fault keys (Err (stop.Stopped why)) = []
 why_line fault keys (Err (stop.NoFile why)) = indented (no_file_text why)
+why_line fault keys e = []
 
 -- the line if so many parts of other runs are there
 abbrev pub others_line : ℕ → List ℕ

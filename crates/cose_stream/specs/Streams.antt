@@ -89,19 +89,28 @@ IsRefused allows aad left refusal.ExtraneousData = Begins allows aad true left (
 IsRefused allows aad left why =
     IfKnown left (λ b. (w : Why) × IsWhy why w × Unstreamed (length b) b w)
 
+-- P holds of a refusal after the whole payload was written: only then it is known what the judge
+-- says
+abbrev pub IfWhole : StreamRefusal → Type 0 → Type 0
+IfWhole refusal.Judged P = P
+IfWhole refusal.ExtraneousData P = P
+IfWhole why P = Unit {0}
+
 -- how the check ends by this judge and external data: the whole input is such a message, the answer
--- is yes, and its payload was written; or what is said of the input is true, and nothing was
--- written but a beginning of the payload. If the output failed, the last call may have been a
--- flush, which changes nothing that was written.
+-- is yes, and its payload was written and is not held back; or what is said of the input is true,
+-- and nothing was written but a beginning of the payload; the output hasn't failed if the judge was
+-- heard. If it failed, the last call may have been a flush, which changes nothing that was written.
 abbrev pub Ended : {W F : Type 0} → (Question → Bool) → List ℕ → Option (List ℕ) → Writing W F → W → W → Result (Unit {0}) StreamStop → Type 0
 Ended allows aad left w out out' (Ok u) =
     (payload front : List ℕ) × IsAnswered allows aad true payload front
     × IfKnown left (λ b. b ≡ front)
     × (w.failed out' ≡ w.failed out) × Appends (w.written out) (w.written out') payload
+    × (w.held out' ≡ [])
 Ended allows aad left w out out' (Err (stop.NotBegun why)) = ⊥
 Ended allows aad left w out out' (Err (stop.NoFile why)) = ⊥
 Ended allows aad left w out out' (Err (stop.Refused why)) =
     IsRefused allows aad left why × CopiedPart usual w out out' left
+    × IfWhole why (w.failed out' ≡ w.failed out)
 Ended allows aad left w out out' (Err (stop.Stopped (gating.Decode e))) =
     IfKnown left (λ b. Tells is_end (Unstreamed (length b) b) (IsLongFor 4096 0 b) (fault.Decode e))
     × CopiedPart usual w out out' left

@@ -1,9 +1,9 @@
 use Rattle.std.proofs.Common.{refl, rules, ◌≡◌, ◌∷◌, ◌++◌, [], ◌∙◌}
 use Rattle.std.specs.Prelude.{option_copied}
 use Rattle.cose_gate_program.specs.Telling.{not_begun}
-use Rattle.cose_gate_program.proofs.Tellings.{began, ran_as}
+use Rattle.cose_gate_program.proofs.Tellings.{began, not_ended, ran_as}
 use Rattle.cose_gate_command.specs.RunLines.{SaysSince}
-use Rattle.cose_gate_command.proofs.RunLines.{said_all, same_writer}
+use Rattle.cose_gate_command.proofs.RunLines.{said_all, same_writer, handed_said}
 use Rattle.cose_gate_command.proofs.Ends.{lent_on}
 use Rattle.cose_gate_command.proofs.KeyReasons.{plain_run}
 use Rattle.cose_gate_command.proofs.verbose.run_asked.Goals as goal
@@ -23,3 +23,16 @@ returns-in-Ok-clause-ran g c =
 
 pub returns-clause-ran : goal.returns-clause-ran
 returns-clause-ran g c = not_begun c.in-Err.why c.in-Err.ensures c.end_unbegun.ensures.status refl c.end_unbegun.ensures.said
+
+pub returns-clause-handed : goal.returns-clause-handed
+returns-clause-handed g c = not_ended _ c.in-Err.why _ c.end_unbegun.ensures.status
+
+pub returns-in-Ok-clause-lines : goal.returns-in-Ok-clause-lines
+returns-in-Ok-clause-lines g c = λ less.
+    let ran = c.run_told.ensures.ran in
+    let said = c.run_told.new.teller in
+    let name : said.out.ghost_name ≡ _ = same_writer _ _ _ ran.told ∙ c.new-teller.ensures.kept in
+    handed_said g.E.Write _ _ _ _ ran c.new-teller.ensures.was c.new-teller.ensures.told (search (rules, said.handed))
+
+pub returns-clause-lines : goal.returns-clause-lines
+returns-clause-lines g c = not_ended _ c.in-Err.why _ c.end_unbegun.ensures.status

@@ -2,6 +2,7 @@ use Rattle.std.proofs.Common.{rules, ◌≡◌, ◌∷◌, ◌++◌, [], ◌∙�
 use Rattle.cose_gate_program.specs.Lines.{lines_of}
 use Rattle.cose_gate_program.specs.Writing.{Wrote}
 use Rattle.cose_gate_program.proofs.LentLines.{spoke, same_writer}
+use Rattle.cose_gate_program.proofs.Handed.{ran_handed, ran_name}
 use Rattle.cose_gate_program.proofs.Tellings.{ran_as}
 use Rattle.cose_gate_program.proofs.program.run_judged.Goals as goal
 
@@ -12,3 +13,10 @@ returns-clause-ran g c = ran_as c.run_told.ensures.ran (λ qs asked. asked) (λ 
     let name : lines.out.ghost_name ≡ _ = same_writer _ _ all told ∙ c.new-lines.ensures.kept in
     let wrote : Wrote g.E.Write c.args.err.now lines.out.now (lines_of all) = spoke g.E.Write _ _ all _ _ told c.new-lines.ensures.begun c.new-lines.ensures.told lines.wrote in
     search rules)
+
+pub returns-clause-lines : goal.returns-clause-lines
+returns-clause-lines g c =
+    let ran = c.run_told.ensures.ran in
+    let lines = c.run_told.new.teller in
+    let name : lines.out.ghost_name ≡ _ = ran_name _ _ ran ∙ c.new-lines.ensures.kept in
+    ran_handed g.E.Write _ _ _ _ ran c.new-lines.ensures.begun c.new-lines.ensures.told (search (rules, lines.handed))

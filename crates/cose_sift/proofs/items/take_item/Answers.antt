@@ -1,6 +1,7 @@
 use Rattle.std.proofs.KnownBytes.{Keeps-trans}
 use Rattle.ciborium_ll.specs.Views.{seen}
 use Rattle.cose_sift.proofs.TakenItem.{begun_step, begun_done, begun_fails, begun_place, halted, no_place}
+use Rattle.cose_sift.proofs.Deep.{begun_deep}
 use Rattle.cose_sift.proofs.items.take_item.Goals as goal
 use Rattle.std.proofs.Common.{◌∙◌}
 
@@ -13,7 +14,9 @@ steps-preserved g c = record {
   failed = c.in-Ok-step.ensures.failed ∙ c.steps.invariant.failed;
   out = Keeps-trans _ _ _ c.steps.invariant.out c.hand_on.ensures.out;
   lines = Keeps-trans _ _ _ c.steps.invariant.lines c.hand_on.ensures.lines;
+  writer = c.in-Ok.ensures.writer ∙ c.steps.invariant.writer;
   max = c.in-Ok-step.ensures.max ∙ c.steps.invariant.max;
+  most = c.in-Ok-step.ensures.most ∙ c.steps.invariant.most;
 }
 
 pub returns-then-is_done-clause-ok : goal.returns-then-is_done-clause-ok
@@ -33,3 +36,8 @@ returns-in-Err-step-clause-place g c = λ s.
 
 pub returns-in-Err-clause-place : goal.returns-in-Err-clause-place
 returns-in-Err-clause-place g c = λ s. no_place (seen g.R.Read c.args.decoder.now) (seen g.R.Read c.steps.decoder) c.in-Err.halt c.in-Err.ensures.err
+
+pub returns-in-Err-step-clause-deep : goal.returns-in-Err-step-clause-deep
+returns-in-Err-step-clause-deep g c = λ s.
+    begun_deep (seen g.R.Read c.args.decoder.now) (seen g.R.Read c.steps.decoder) (seen g.R.Read c.step.new.decoder) c.steps.taking c.args.taking.now.walk.most c.in-Err-step.stop c.steps.invariant.begun
+    (rw c.steps.invariant.most at c.in-Err-step.ensures.deep (c.steps.invariant.sound s))

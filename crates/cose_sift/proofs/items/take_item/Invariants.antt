@@ -15,5 +15,7 @@ invariant-steps g l = record {
   failed : (seen g.R.Read l.decoder).failed ≡ (seen g.R.Read l.fn.decoder).failed;
   out : Keeps (g.W.Write.written l.fn.out) (g.W.Write.written l.out);
   lines : Keeps (g.E.Write.written l.fn.lines) (g.E.Write.written l.lines);
+  writer : g.W.Write.failed l.out ≡ g.W.Write.failed l.fn.out;
+  most : l.taking.walk.most ≡ l.fn.taking.walk.most;
   max : l.taking.max ≡ l.fn.taking.max;
 }

@@ -1,7 +1,7 @@
 use Rattle.std.proofs.Common.{◌≡◌, None, []}
 use Rattle.ciborium_ll.specs.Views.{seen, waiting_of}
 use Rattle.cose_sift.specs.Grammar.{Item}
-use Rattle.cose_sift.specs.Taking.{IsDue, Held, due_by}
+use Rattle.cose_sift.specs.Taking.{IsDue, Held, due_by, most_of}
 use Rattle.cose_sift.specs.Walking.{Goes, IsSound}
 use Rattle.cose_sift.proofs.Sieve.{Ran}
 use Rattle.cose_sift.proofs.sifting.sift.Given as goal
@@ -15,5 +15,7 @@ invariant-items g l = record {
   due : IsDue l.taking;
   sound : IsSound l.taking.walk;
   held : Held l.taking [];
+  writer : g.W.Write.failed l.out ≡ g.W.Write.failed l.fn.out;
+  most : l.taking.walk.most ≡ most_of l.options.max;
   max : l.taking.max ≡ l.options.max;
 }

@@ -1,10 +1,11 @@
 use Rattle.std.proofs.Common.{◌≡◌, ◌++◌, ℕ, List, sym, subst, ◌∙◌, arith, reverse}
-use Rattle.std.proofs.lemmas.Result.{on_ok_weaker}
+use Rattle.std.proofs.lemmas.Result.{IfErr-weaker, on_ok_weaker}
 use Rattle.ciborium_ll.specs.Views.{seen}
 use Rattle.cose_sift.specs.Walking.{wanted_by}
 use Rattle.cose_sift.specs.Taking.{due_by, Held}
 use Rattle.cose_sift.proofs.Steps.{wants_begin}
 use Rattle.cose_sift.proofs.Takes.{head_fails, walk_fails, head_goes_on, body_begins}
+use Rattle.cose_sift.proofs.Deep.{not_deep, head_not_deep, walk_deep}
 use Rattle.cose_sift.proofs.taking.Taking.step.Goals as goal
 
 pub returns-in-Err-clause-err : goal.returns-in-Err-clause-err
@@ -36,3 +37,16 @@ returns-clause-ok g c =
 
 pub returns-clause-sound : goal.returns-clause-sound
 returns-clause-sound g c = on_ok_weaker c.keep.result (λ held s. rw c.keep.ensures.walk (c.in-Ok-take.ensures.sound s)) c.keep.ensures.ok
+
+pub returns-then-self-gt0-clause-deep : goal.returns-then-self-gt0-clause-deep
+returns-then-self-gt0-clause-deep g c = λ s. IfErr-weaker c.take_body.result _ _ (λ stop n. not_deep (due_by c.args.self.now) c.args.self.now.walk.most (seen g.R.Read c.args.decoder.now) (seen g.R.Read c.take_body.new.decoder) stop n) c.take_body.ensures.deep
+
+pub returns-in-Err-clause-deep : goal.returns-in-Err-clause-deep
+returns-in-Err-clause-deep g c = λ s. head_not_deep (due_by c.args.self.now) c.args.self.now.walk.most (seen g.R.Read c.args.decoder.now) (seen g.R.Read c.take_head.new.decoder) c.in-Err.stop c.in-Err.ensures.err
+
+pub returns-in-Err-take-clause-deep : goal.returns-in-Err-take-clause-deep
+returns-in-Err-take-clause-deep g c = λ s.
+    let none : c.args.self.now.body ≡ 0 = omega arith in
+    let t = c.in-Ok.ensures.ok in
+    walk_deep (wanted_by c.args.self.now.walk) c.args.self.now.walk.most c.args.self.now.body (seen g.R.Read c.args.decoder.now) (seen g.R.Read c.take_head.new.decoder) c.in-Ok.header c.offset-at.result c.in-Err-take.fault c.walk_fault.result t.bytes none
+    c.walk_fault.ensures t.has.1 t.taken t.grown (c.in-Err-take.ensures.deep s)

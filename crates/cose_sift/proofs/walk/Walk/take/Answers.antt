@@ -1,5 +1,6 @@
 use Rattle.std.proofs.lemmas.Result.{on_ok_weaker}
 use Rattle.cose_sift.proofs.Steps.{agrees_goes, agrees_refuses, syntax_weaker}
+use Rattle.cose_sift.proofs.Deep.{agrees_deep, deep_weaker}
 use Rattle.cose_sift.proofs.walk.Walk.take.Goals as goal
 
 pub returns-clause-ok : goal.returns-clause-ok
@@ -10,3 +11,7 @@ returns-clause-syntax c = syntax_weaker c.take_item-2.result (λ f title t. agre
 
 pub returns-clause-sound : goal.returns-clause-sound
 returns-clause-sound c = on_ok_weaker c.take_item-2.result (λ f s. f (c.in_ok-begin.ensures.sound s)) c.take_item-2.ensures.sound
+
+pub returns-clause-deep : goal.returns-clause-deep
+returns-clause-deep c = λ s.
+    deep_weaker c.take_item-2.result (λ f title t. agrees_deep _ _ _ title (c.in_ok-begin.ensures.ok title t) (rw c.in_ok-begin.ensures.most at f title t)) (c.take_item-2.ensures.deep (c.in_ok-begin.ensures.sound s))
