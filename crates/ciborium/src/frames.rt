@@ -824,6 +824,27 @@ pub fn read_next<R: Read>(
     read_headed(alloc, decoder, at, limit, spare)
 }
 
+/// The next item: its bytes into this vector, or another item.
+#[inline(always)]
+pub fn read_bytes_or<R: Read>(
+    alloc: Global,
+    decoder: &mut Decoder<R>,
+    limit: usize,
+    spare: &mut Spare,
+    into: &mut Vec<u8>,
+) -> Result<Option<Value>, Error<R::Error>> {
+    let at = decoder.offset();
+    next_head(decoder)?;
+    if decoder.major() == 2 {
+        let length = decoder.head_length();
+        let bytes = read_string(alloc, decoder, length, at)?;
+        *into = bytes;
+        return Ok(None);
+    }
+    let value = read_headed(alloc, decoder, at, limit, spare)?;
+    Ok(Some(value))
+}
+
 /// Whether the head that was read is that of an array of the definite length four.
 fn is_four<R: Read>(decoder: &Decoder<R>) -> bool
     ensures { IsTrue result → last_head decoder.now ≡ Array (Some 4) }

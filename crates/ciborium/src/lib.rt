@@ -22,8 +22,8 @@ mod typed;
 pub mod value;
 
 pub use crate::de::{from_reader, from_reader_with_buffer};
-pub use crate::frames::{Front, Spare, read_front, read_next};
-pub use crate::maps::{MapReader, MapStart};
+pub use crate::frames::{Front, Spare, read_bytes_or, read_front, read_next};
+pub use crate::maps::{Key, MapReader, MapStart};
 pub use crate::ser::into_writer;
 pub use crate::value::Value;
 pub use ciborium_ll as ll;

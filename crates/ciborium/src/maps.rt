@@ -10,7 +10,7 @@ ghost use Rattle.ciborium.specs.Maps.{InMap, IsStart, NextEntry};
 ghost use Rattle.ciborium.specs.Reading.{NamesFault, Leaves, Steady, is_full};
 
 use crate::de::Error;
-use crate::frames::{Spare, read_headed, read_next};
+use crate::frames::{Spare, read_bytes_or, read_headed, read_next};
 use crate::reader::next_part;
 use crate::strings::next_head;
 use crate::value::Value;
@@ -34,7 +34,82 @@ pub enum MapStart {
     Other(Value),
 }
 
+/// The key of an entry: a number, or another item.
+#[derive(Drop)]
+pub enum Key {
+    /// This number.
+    Number(u64),
+    /// This item.
+    Other(Value),
+}
+
 impl MapReader {
+    /// The next key.
+    #[inline(always)]
+    pub fn next_key<R: Read>(
+        &mut self,
+        alloc: Global,
+        decoder: &mut Decoder<R>,
+        spare: &mut Spare,
+    ) -> Result<Option<Key>, Error<R::Error>> {
+        let at = decoder.offset();
+        let more = next_part(decoder, self.left, 0)?;
+        if !more {
+            return Ok(None);
+        }
+        self.left = one_less(self.left);
+        if decoder.major() == 0 {
+            return Ok(Some(Key::Number(decoder.head_number())));
+        }
+        let key = read_headed(alloc, decoder, at, self.limit, spare)?;
+        Ok(Some(Key::Other(key)))
+    }
+
+    /// The value of the entry.
+    #[inline(always)]
+    pub fn value<R: Read>(
+        &mut self,
+        alloc: Global,
+        decoder: &mut Decoder<R>,
+        spare: &mut Spare,
+    ) -> Result<Value, Error<R::Error>> {
+        read_next(alloc, decoder, self.limit, spare)
+    }
+
+    /// The value of the entry: bytes, or another item.
+    #[inline(always)]
+    pub fn bytes_or<R: Read>(
+        &mut self,
+        alloc: Global,
+        decoder: &mut Decoder<R>,
+        spare: &mut Spare,
+        into: &mut Vec<u8>,
+    ) -> Result<Option<Value>, Error<R::Error>> {
+        read_bytes_or(alloc, decoder, self.limit, spare, into)
+    }
+
+    /// The value of the entry: a number that is no more than 2^63 - 1, or another item.
+    #[inline(always)]
+    pub fn number_or<R: Read>(
+        &mut self,
+        alloc: Global,
+        decoder: &mut Decoder<R>,
+        spare: &mut Spare,
+    ) -> Result<Result<i64, Value>, Error<R::Error>> {
+        let at = decoder.offset();
+        next_head(decoder)?;
+        let major = decoder.major();
+        if major < 2 {
+            let n = decoder.head_number();
+            if n <= 9223372036854775807 {
+                let n = n as i64;
+                return Ok(Ok(if major == 0 { n } else { -1 - n }));
+            }
+        }
+        let value = read_headed(alloc, decoder, at, self.limit, spare)?;
+        Ok(Err(value))
+    }
+
     /// Takes the head of the next item if that is a map, else the item. No header may wait.
     ///
     /// # Errors

@@ -289,6 +289,28 @@ impl Header {
     }
 }
 
+impl Header {
+    /// Takes the bytes of a byte string as the field of the label 4, 5 or 6.
+    pub(crate) fn set_bytes(&mut self, n: u64, bytes: Vec<u8>) -> Result<(), CoseError> {
+        let field = match n {
+            4 => &mut self.key_id,
+            5 => &mut self.iv,
+            _ => &mut self.partial_iv,
+        };
+        if !field.is_empty() {
+            return Err(CoseError::DuplicateMapKey);
+        }
+        if bytes.is_empty() {
+            return Err(CoseError::UnexpectedItem("empty bstr", "non-empty bstr"));
+        }
+        *field = bytes;
+        if n > 4 && !self.iv.is_empty() && !self.partial_iv.is_empty() {
+            return Err(two_ivs());
+        }
+        Ok(())
+    }
+}
+
 /// The error of an IV beside a partial IV.
 fn two_ivs() -> CoseError
     ensures { fault_of result ≡ unexpected }

@@ -33,7 +33,7 @@ ghost use Rattle.coset_headers.specs.Wrong.{WrongSigned};
 use crate::fields::place_of;
 use crate::header::{CoseSignature, Header, ProtectedHeader};
 use crate::values::is_bare;
-use ciborium::{Decoder, MapReader, MapStart, Read, Spare, de};
+use ciborium::{Decoder, Key, MapReader, MapStart, Read, Spare, de};
 use ciborium_value::{Integer, Value};
 use coset_labels::tuples::{count_structures, three};
 use coset_labels::{
@@ -253,14 +253,64 @@ fn walk_entries<R: Read>(
     let mut seen = SeenLabels::new(alloc);
     let mut read = Ok(());
     'entries: loop {
-        let next = entries.next(alloc, decoder, spare)?;
+        let next = entries.next_key(alloc, decoder, spare)?;
         match next {
             None => return Ok(read),
-            Some(entry) => {
-                read = fill_entry(alloc, &mut seen, read, entry, nesting, layers, into);
+            Some(Key::Number(n)) => {
+                if n >= 4 && n <= 6 {
+                    let mut bytes = Vec::new(alloc);
+                    let other = entries.bytes_or(alloc, decoder, spare, &mut bytes)?;
+                    if read.is_ok() {
+                        read = match other {
+                            None => into.set_bytes(n, bytes),
+                            Some(value) => fill_label(
+                                alloc, &mut seen, Label::Int(n as i64), value, nesting, layers, into,
+                            ),
+                        };
+                    }
+                } else if n <= 9223372036854775807 {
+                    let value = entries.value(alloc, decoder, spare)?;
+                    if read.is_ok() {
+                        read = fill_label(
+                            alloc, &mut seen, Label::Int(n as i64), value, nesting, layers, into,
+                        );
+                    }
+                } else {
+                    let _value = entries.value(alloc, decoder, spare)?;
+                    if read.is_ok() {
+                        read = Err(CoseError::OutOfRangeIntegerValue);
+                    }
+                }
+            }
+            Some(Key::Other(key)) => {
+                let value = entries.value(alloc, decoder, spare)?;
+                read = fill_entry(alloc, &mut seen, read, (key, value), nesting, layers, into);
             }
         }
     }
+}
+
+/// Reads the value of a label into the header.
+fn fill_label(
+    alloc: Global,
+    seen: &mut SeenLabels<Label>,
+    label: Label,
+    value: Value,
+    nesting: usize,
+    layers: usize,
+    into: &mut Header,
+) -> Result<(), CoseError> {
+    let place = place_of(&label);
+    let fresh = into.is_new(alloc, seen, place, &label)?;
+    if !fresh {
+        return Err(CoseError::DuplicateMapKey);
+    }
+    if place.is_counter_signatures() {
+        let signatures = read_signatures(alloc, value, nesting, layers)?;
+        into.counter_signatures = signatures;
+        return Ok(());
+    }
+    into.set(alloc, place, label, value)
 }
 
 /// Reads the header in these bytes into an empty one; none is there if they are empty.
