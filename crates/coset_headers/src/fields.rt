@@ -290,6 +290,16 @@ impl Header {
 }
 
 impl Header {
+    /// Takes the algorithm of this number.
+    pub(crate) fn set_alg(&mut self, n: i64) -> Result<(), CoseError> {
+        if self.alg.is_some() {
+            return Err(CoseError::DuplicateMapKey);
+        }
+        let alg = Algorithm::from_number(n)?;
+        self.alg = Some(alg);
+        Ok(())
+    }
+
     /// Takes the bytes of a byte string as the field of the label 4, 5 or 6.
     pub(crate) fn set_bytes(&mut self, n: u64, bytes: Vec<u8>) -> Result<(), CoseError> {
         let field = match n {

@@ -268,6 +268,16 @@ fn walk_entries<R: Read>(
                             ),
                         };
                     }
+                } else if n == 1 {
+                    let alg = entries.number_or(alloc, decoder, spare)?;
+                    if read.is_ok() {
+                        read = match alg {
+                            Ok(number) => into.set_alg(number),
+                            Err(value) => fill_label(
+                                alloc, &mut seen, Label::Int(1), value, nesting, layers, into,
+                            ),
+                        };
+                    }
                 } else if n <= 9223372036854775807 {
                     let value = entries.value(alloc, decoder, spare)?;
                     if read.is_ok() {

@@ -177,6 +177,22 @@ impl<T: EnumI64> PartialOrd for RegisteredLabelWithPrivate<T> {
     }
 }
 
+impl<T: WithPrivateRange> RegisteredLabelWithPrivate<T> {
+    /// What this number stands for.
+    pub fn from_number(n: i64) -> Result<RegisteredLabelWithPrivate<T>, CoseError> {
+        match T::from_i64(n) {
+            Some(entry) => Ok(RegisteredLabelWithPrivate::Assigned(entry)),
+            None => {
+                if T::is_private(n) {
+                    Ok(RegisteredLabelWithPrivate::PrivateUse(n))
+                } else {
+                    Err(CoseError::UnregisteredIanaNonPrivateValue)
+                }
+            }
+        }
+    }
+}
+
 /// A name as it is compared.
 #[derive(Clone, Copy)]
 enum Name<'a> {
