@@ -15,7 +15,6 @@ mod parts;
 mod protected;
 mod received;
 mod rows;
-mod rules;
 mod structures;
 mod tags;
 mod widest;
