@@ -185,7 +185,7 @@ module _ {T S E : Type 0} (ends : E → Bool) (live : Bool) (by : Rules T S) (ol
   ws ss = output_of by.allows by.aad ss
 
   -- no item was at hand
-  between : (r : Result Counts (GateFault E)) (done : List Step) (g : Ending E) (more rest : List ℕ) → at_hand g ≡ [] → asked_at by.allows by.aad g ≡ [] → written_at by.allows by.aad g ≡ []
+  abbrev pub between : (r : Result Counts (GateFault E)) (done : List Step) (g : Ending E) (more rest : List ℕ) → at_hand g ≡ [] → asked_at by.allows by.aad g ≡ [] → written_at by.allows by.aad g ≡ []
       → (input : List ℕ) → IfKnown old.left (λ b. b ≡ input) → Course by.limits by.allows by.aad old.offset input done more → more ≡ taken_at g ++ rest
       → EndsAt ends live by.limits by.allows by.aad old.left done rest g → Leaves g old.left new.left rest → Made by old new done
       → new.offset + length rest ≡ old.offset + length input
@@ -436,7 +436,7 @@ module _ {T S : Type 0} (rules : Rules T S) where
       omega arith
 
   -- a live gate: all steps so far were made, and what passed could not be handed on
-  pub answer_unflushed : {E : Type 0} (ends : E → Bool) (live : Bool) (old new : GateState T S) (passed refused : ℕ) (done : List Step) → live ≡ true → 0 < passed + refused → Reached rules old new passed refused done
+  abbrev pub answer_unflushed : {E : Type 0} (ends : E → Bool) (live : Bool) (old new : GateState T S) (passed refused : ℕ) (done : List Step) → live ≡ true → 0 < passed + refused → Reached rules old new passed refused done
       → RanSteps ends live rules old new done (Err Write)
   answer_unflushed ends live old new passed refused done is some r =
       let w = left_after old new done r.taken r.steps (rest_of new.left) (rest_known new.left) in

@@ -41,7 +41,7 @@ no_title l k waiting is none = is ∙ ap (due l) none ∙ due_none l
 
 -- the run of the gate, by the input and the output that it was lent, and by what judge and report
 -- were told
-pub gated : {T S : Type 0} (by : Rules T S) (old new : GateState T S) (n n' f f' : ℕ) (r : Result Counts (GateFault InputFault)) (before after : Devices)
+abbrev pub gated : {T S : Type 0} (by : Rules T S) (old new : GateState T S) (n n' f f' : ℕ) (r : Result Counts (GateFault InputFault)) (before after : Devices)
     (Asked : List Question → Type 0) (Told : List Notice → Type 0)
     → old.offset ≡ 0 → before ≡ devices old.left old.written n f → after ≡ devices new.left new.written n' f'
     → Ran is_end true by old new r → n' ≡ n + reader_failures is_end r → f' ≡ f + writer_failures r
