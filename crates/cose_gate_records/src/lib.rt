@@ -34,7 +34,7 @@ pub use crate::checking::check;
 pub use crate::choice::Choice;
 pub use crate::framing::split_first;
 pub use crate::growing::Growing;
-pub use crate::headers::{has_algorithm, has_known_crit, key_id};
+pub use crate::headers::{has_algorithm, has_known_crit, key_id, key_layer};
 pub use crate::held::Held;
 pub use crate::nowhere::Nowhere;
 pub use crate::passing::pass;
