@@ -86,8 +86,11 @@ pub use Rattle.coset_keys.specs.declared.key.CoseKeySet
 pub use Rattle.cose_gate_program.specs.Beginning
 pub use Rattle.cose_gate_program.specs.Judge as HmacJudges
 pub use Rattle.cose_gate_program.specs.Keys as HmacKeys
-pub use Rattle.cose_gate_program.specs.Messages as HmacMessages
-pub use Rattle.cose_gate_program.specs.Secrets as HmacSecrets
+pub use Rattle.cose_gate_program.specs.Judging as HmacTags
+pub use Rattle.cose_rules.specs.Headers as HeaderRules
+pub use Rattle.cose_rules.specs.Keys as KeyRules
+pub use Rattle.cose_rules.specs.Labels as RuleLabels
+pub use Rattle.cose_rules.specs.Rule
 pub use Rattle.cose_gate_program.specs.InBlocks
 pub use Rattle.cose_gate_program.specs.Lines
 pub use Rattle.cose_gate_program.specs.Program

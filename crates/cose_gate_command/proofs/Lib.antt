@@ -2,7 +2,6 @@ pub mod Arriving
 pub mod Endings
 pub mod Ends
 pub mod HexDigits
-pub mod KeyFields
 pub mod Keys
 pub mod NotRuns
 pub mod KeyReasons

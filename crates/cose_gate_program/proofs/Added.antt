@@ -12,8 +12,9 @@ use Rattle.std.proofs.lemmas.Map.Text.{btree_map_updates_str}
 use Rattle.std.proofs.lemmas.Slice.Eq.{bytes_eq-Decides}
 use Rattle.coset_keys.specs.Fields.{KeyFields}
 use Rattle.cose_gate_program.specs.Indexed.{Secrets, secret_at, IsIndexOf, Adds, Enters}
-use Rattle.cose_gate_program.specs.Keys.{secret, fits, serves, secret_under}
-use Rattle.cose_gate_program.specs.Names.{is_symmetric, allows_hmac, allows_verify}
+use Rattle.cose_rules.specs.Algorithms.{symmetric, verify_mac}
+use Rattle.cose_rules.specs.Keys.{allows, is_entry, permits}
+use Rattle.cose_gate_program.specs.Keys.{hmac_256, secret, fits, serves, secret_under}
 use Rattle.cose_gate_program.specs.declared.prepared.PreparedSecret.{PreparedSecret}
 
 or_none : {A : Type 0} (o : Option A) → o ≡ option_or o None
@@ -74,7 +75,7 @@ first_or false k o p r has h = h
 behind : (id : List ℕ) (ks : List KeyFields) (k : KeyFields) → secret_under id (ks ++ k ∷ []) ≡ option_or (secret_under id ks) (secret_under id (k ∷ []))
 behind id [] k = refl
 behind id (j ∷ ks) k = first_or (fits id j) j (find (fits id) ks) (find (fits id) (ks ++ k ∷ [])) (secret_under id (k ∷ []))
-    (third (bytes_eq j.key_id id) (is_symmetric j.kty) (is_some (secret j)) (allows_hmac j.alg && allows_verify j.key_ops)) (behind id ks k)
+    (third (bytes_eq j.key_id id) (is_entry symmetric j.kty) (is_some (secret j)) (allows hmac_256 j.alg && permits verify_mac j.key_ops)) (behind id ks k)
 
 pub indexed : (m n : Secrets) (ks all : List KeyFields) (k : KeyFields) → IsIndexOf m ks → Adds m k n → all ≡ (ks ++ k ∷ []) → IsIndexOf n all
 indexed m n ks all k is h e id = h id ∙ ap (λ z. option_or z (secret_under id (k ∷ []))) (is id) ∙ sym (behind id ks k) ∙ sym (ap (λ z. secret_under id z) e)

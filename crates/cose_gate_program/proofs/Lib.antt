@@ -1,12 +1,9 @@
 pub mod Added
 pub mod Begins
-pub mod Found
-pub mod Headers
 pub mod Held
 pub mod LentLines
 pub mod Handed
 pub mod Moved
-pub mod Numbers
 pub mod Runs
 pub mod Tellings
 pub mod Verdicts

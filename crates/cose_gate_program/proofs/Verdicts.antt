@@ -6,18 +6,18 @@ use Rattle.std.proofs.lemmas.Slice.Eq.{bytes_eq-Decides}
 use Rattle.cose_hmac.specs.Hmac.{hmac}
 use Rattle.cose_gate_core.specs.Fields.{HeaderFields, ProtectedFields}
 use Rattle.coset_keys.specs.Fields.{KeyFields}
+use Rattle.cose_rules.specs.Rule.{id_in}
 use Rattle.cose_gate_program.specs.Judging.{may_judge, secret_for, is_tag_under}
 use Rattle.cose_gate_program.specs.Keys.{secret, first_fit}
-use Rattle.cose_gate_program.specs.Messages.{message_id}
 
 abbrev pub secret_if : List KeyFields → ProtectedFields → HeaderFields → Bool → Option (List ℕ)
-secret_if keys p u b = if b then option_and_then secret (first_fit (message_id p u) keys) else None
+secret_if keys p u b = if b then option_and_then secret (first_fit (id_in (p, u)) keys) else None
 
 pub barred : (keys : List KeyFields) (p : ProtectedFields) (u : HeaderFields) → may_judge p u ≡ false → None ≡ secret_for keys p u
 barred keys p u e = sym (ap (secret_if keys p u) e)
 
 pub for_first : (keys : List KeyFields) (p : ProtectedFields) (u : HeaderFields) (id : List ℕ) (o : Option KeyFields)
-    → may_judge p u ≡ true → id ≡ message_id p u → o ≡ first_fit id keys → option_and_then secret o ≡ secret_for keys p u
+    → may_judge p u ≡ true → id ≡ id_in (p, u) → o ≡ first_fit id keys → option_and_then secret o ≡ secret_for keys p u
 for_first keys p u id o may same found = ap (λ z. option_and_then secret z) (found ∙ ap (λ z. first_fit z keys) same) ∙ sym (ap (secret_if keys p u) may)
 
 same_bools : (r s : Bool) → (r ≡ true → s ≡ true) → (s ≡ true → r ≡ true) → r ≡ s

@@ -8,11 +8,8 @@ pub mod Keeps
 pub mod Keys
 pub mod LentTeller
 pub mod Lines
-pub mod Messages
-pub mod Names
 pub mod OutOfBlocks
 pub mod Program
-pub mod Secrets
 pub mod Telling
 pub mod Words
 pub mod Writing

@@ -5,9 +5,17 @@ ghost use Rattle.coset_keys.specs.View.{key_view, key_set_view};
 ghost use Rattle.cose_gate_program.specs.Keys as spec;
 ghost use Rattle.cose_gate_program.specs.Keys.{secret, first_fit};
 
-use crate::names::{allows_hmac, allows_verify, is_symmetric};
-use crate::secrets::secret_in;
+use cose_rules::{MAC_VERIFY, allows, has_id, is_type, part_of, permits};
 use coset_keys::{CoseKey, CoseKeySet};
+
+/// The algorithm HMAC 256/256 (RFC 9053, section 3.1).
+pub(crate) const HMAC: i64 = 5;
+
+/// The type of symmetric keys (RFC 9053, section 7.3).
+const SYMMETRIC: i64 = 4;
+
+/// The label of the secret of such keys.
+const SECRET: i64 = -1;
 
 /// The first key that fits a message with this key id.
 pub fn find_key<'a>(keys: &'a CoseKeySet, id: &[u8]) -> Option<&'a CoseKey>
@@ -29,17 +37,17 @@ fn first_that_fits<'a>(keys: &'a [CoseKey], id: &[u8]) -> Option<&'a CoseKey>
 pub fn fits(key: &CoseKey, id: &[u8]) -> bool
     ensures { result ≡ spec.fits id.now (key_view key.now) }
 {
-    key.key_id.as_slice() == id && serves(key)
+    has_id(key, id) && serves(key)
 }
 
 /// Whether a key serves to verify tags of the messages that have its id.
 fn serves(key: &CoseKey) -> bool
     ensures { result ≡ spec.serves (key_view key.now) }
 {
-    is_symmetric(&key.kty)
+    is_type(&key.kty, SYMMETRIC)
         && has_secret(key)
-        && allows_hmac(&key.alg)
-        && allows_verify(&key.key_ops)
+        && allows(&key.alg, HMAC)
+        && permits(&key.key_ops, MAC_VERIFY)
 }
 
 /// The secret of a key that serves; none of another.
@@ -56,7 +64,10 @@ pub(crate) fn serving_secret(key: &CoseKey) -> Option<&[u8]>
 fn has_secret(key: &CoseKey) -> bool
     ensures { result ≡ is_some (secret (key_view key.now)) }
 {
-    secret_of(key).is_some()
+    match secret_of(key) {
+        Some(_) => true,
+        None => false,
+    }
 }
 
 /// The secret of a key: the first of its `params` with the label -1, if that is a byte string (RFC
@@ -64,5 +75,5 @@ fn has_secret(key: &CoseKey) -> bool
 pub fn secret_of(key: &CoseKey) -> Option<&[u8]>
     ensures { option_copied result ≡ secret (key_view key.now) }
 {
-    secret_in(&key.params)
+    part_of(key, SECRET)
 }

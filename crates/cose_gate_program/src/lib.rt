@@ -13,12 +13,9 @@ mod judge;
 mod keys;
 mod lines;
 mod macs;
-mod messages;
-mod names;
 mod out_blocks;
 mod prepared;
 mod program;
-mod secrets;
 mod stack;
 mod telling;
 mod verdict;
@@ -30,13 +27,12 @@ pub use crate::devices::{Input, InputFault, OutputFault};
 pub use crate::judge::HmacJudge;
 pub use crate::keys::{find_key, fits, secret_of};
 pub use crate::lines::{hand_on, write_logged, write_notice};
-pub use crate::messages::{alg_is_hmac, crit_is_known, message_id};
 pub use crate::out_blocks::OutBlocks;
 pub use crate::program::{
     last_of, run, run_judged, run_over, run_over_told, run_told, run_with, status_after,
 };
 pub use crate::stack::has_stack;
 pub use crate::telling::{Notice, Teller};
-pub use crate::verdict::{is_good_tag, secret_for};
+pub use crate::verdict::{alg_is_hmac, is_good_tag, secret_for};
 pub use cose_gate_core::{GateFault, Limits, Terms};
 pub use coset_keys::CoseKeySet;

@@ -8,10 +8,10 @@ ghost use Rattle.cose_gate_program.specs.Judge.{Makes};
 ghost use Rattle.cose_gate_program.specs.Judging as judging;
 
 use crate::index::KeyIndex;
-use crate::messages::message_id;
 use crate::verdict::may_judge;
 use cose_gate_core::{About, Header, MessageKind, ProtectedHeader};
 use cose_hmac::HmacSha256;
+use cose_rules::{Layer, id_in};
 
 /// An HMAC under a secret, which was fed nothing yet; none without a secret.
 pub(crate) fn mac_under(secret: Option<&[u8]>) -> Option<HmacSha256>
@@ -36,7 +36,11 @@ fn mac_for(
     if !may_judge(protected, unprotected) {
         return None;
     }
-    match index.find(message_id(protected, unprotected)) {
+    let layer = Layer {
+        protected,
+        unprotected,
+    };
+    match index.find(id_in(layer)) {
         Some(prepared) => Some(prepared.mac()),
         None => None,
     }

@@ -2,13 +2,14 @@
 ghost use Rattle.std.specs.Prelude.{◌≡◌, option_copied};
 ghost use Rattle.cose_gate_core.specs.HeaderView.{header_view, protected_view};
 ghost use Rattle.coset_keys.specs.View.{key_set_view};
+ghost use Rattle.cose_rules.specs.Ruled.{algorithm_view};
 ghost use Rattle.cose_gate_program.specs.Judging as spec;
 ghost use Rattle.cose_gate_program.specs.Judging.{may_judge, hmac_yes};
 
-use crate::keys::{find_key, secret_of};
-use crate::messages::{alg_is_hmac, crit_is_known, message_id};
-use cose_gate_core::{Header, ProtectedHeader};
+use crate::keys::{HMAC, find_key, secret_of};
+use cose_gate_core::{Algorithm, Header, ProtectedHeader};
 use cose_hmac::{hmac_sha256, same_tag};
+use cose_rules::{Layer, allows, are_understood, id_in};
 use coset_keys::CoseKeySet;
 
 /// The secret of the first key that fits a message, or none if no key does, the message's algorithm
@@ -24,7 +25,11 @@ pub fn secret_for<'a>(
     if !may_judge(protected, unprotected) {
         return None;
     }
-    match find_key(keys, message_id(protected, unprotected)) {
+    let layer = Layer {
+        protected,
+        unprotected,
+    };
+    match find_key(keys, id_in(layer)) {
         Some(key) => secret_of(key),
         None => None,
     }
@@ -32,11 +37,29 @@ pub fn secret_for<'a>(
 
 /// Whether the judge may look for a key: the message's algorithm is HMAC with SHA-256, and all that
 /// has to be understood is known.
-#[tactic(auto, using(crate::proofs::Headers::header_inside))]
+#[tactic(auto, using(cose_rules::proofs::Seen::inside))]
 pub(crate) fn may_judge(protected: &ProtectedHeader, unprotected: &Header) -> bool
     ensures { result ≡ may_judge (protected_view protected.now) (header_view unprotected.now) }
 {
-    alg_is_hmac(protected) && crit_is_known(&protected.header) && crit_is_known(unprotected)
+    alg_is_hmac(protected) && are_understood(&protected.header) && are_understood(unprotected)
+}
+
+/// Whether the algorithm of a protected header is HMAC with SHA-256, of which no tag is cut (RFC
+/// 9053, section 3.1).
+pub fn alg_is_hmac(protected: &ProtectedHeader) -> bool
+    ensures { result ≡ spec.alg_is_hmac (protected_view protected.now) }
+{
+    is_hmac(&protected.header.alg)
+}
+
+/// Whether an algorithm is given, and is HMAC with SHA-256.
+fn is_hmac(alg: &Option<Algorithm>) -> bool
+    ensures { result ≡ spec.is_hmac (algorithm_view alg.now) }
+{
+    match alg {
+        Some(_) => allows(alg, HMAC),
+        None => false,
+    }
 }
 
 /// Whether a tag over the covered bytes of a COSE_Mac0 with these headers is good (RFC 9052,

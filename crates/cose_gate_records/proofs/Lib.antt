@@ -4,5 +4,4 @@ pub mod Keys
 pub mod Order
 pub mod Put
 pub mod Runs
-pub mod Shown
 pub mod Told

@@ -37,7 +37,7 @@ pub use crate::choice::Choice;
 pub use crate::digested::Digested;
 pub use crate::framing::{append, eight, split_first};
 pub use crate::growing::Growing;
-pub use crate::headers::{has_algorithm, has_known_crit, key_id};
+pub use crate::headers::{has_algorithm, has_known_crit, key_id, key_layer};
 pub use crate::held::Held;
 pub use crate::nowhere::Nowhere;
 pub use crate::passing::pass;

@@ -5,11 +5,13 @@ use cbor_diag::{CUT, Page, front_text, write_hex, write_text};
 use cose_gate_core::{
     Algorithm, Header, ProtectedHeader, RegisteredLabel, RegisteredLabelWithPrivate,
 };
-use cose_gate_program::{alg_is_hmac, crit_is_known, fits, message_id, secret_of};
+use cose_gate_program::{alg_is_hmac, fits, secret_of};
 use cose_hmac::{hmac_sha256, same_tag};
 use cose_iana::EnumI64;
 use cose_notation::{View, algorithm, key_type, mask, parameter, write_len};
+use cose_rules::{Layer, allows, are_understood, id_in, is_type};
 use coset_keys::CoseKey;
+use coset_labels::KeyType;
 use std::alloc::Global;
 use std::fmt;
 
@@ -21,6 +23,12 @@ const IDS: usize = 8;
 
 /// How many bytes a whole tag has.
 const TAG: usize = 32;
+
+/// The algorithm HMAC 256/256.
+const HMAC: i64 = 5;
+
+/// The type of symmetric keys.
+const SYMMETRIC: i64 = 4;
 
 /// The headers of a COSE_Mac0.
 #[derive(Clone, Copy)]
@@ -36,8 +44,12 @@ pub struct Headers<'a> {
 impl Headers<'_> {
     /// The key id, and whether it isn't shown.
     fn id(&self) -> Id<'_> {
+        let layer = Layer {
+            protected: self.protected,
+            unprotected: self.unprotected,
+        };
         Id {
-            bytes: message_id(self.protected, self.unprotected),
+            bytes: id_in(layer),
             is_hidden: self.hides_id,
         }
     }
@@ -133,11 +145,11 @@ pub fn secret_or_reason<'b, P: fmt::Write>(
         write_other_alg(&protected.header.alg, &unprotected.alg, page);
         return None;
     }
-    if !crit_is_known(&protected.header) {
+    if !are_understood(&protected.header) {
         write_crit("protected", &protected.header, page);
         return None;
     }
-    if !crit_is_known(unprotected) {
+    if !are_understood(unprotected) {
         write_crit("unprotected", unprotected, page);
         return None;
     }
@@ -301,36 +313,27 @@ fn write_key_id<P: fmt::Write>(book: &KeyBook<'_>, id: Id<'_>, page: &mut Page<'
 
 /// Writes why a key that has the id doesn't fit.
 fn write_bar<P: fmt::Write>(key: &CoseKey, page: &mut Page<'_, P>) {
-    match &key.kty {
-        RegisteredLabel::Assigned(cose_iana::KeyType::Symmetric) => write_bar_of_secret(key, page),
-        RegisteredLabel::Assigned(entry) => {
-            let number = (*entry).to_i64();
-            page.write_str("isn't symmetric: its kty is ");
-            write_named(key_type(number), number, page);
-        }
-        RegisteredLabel::Text(text) => {
-            page.write_str("isn't symmetric: its kty is ");
-            write_front(text.as_str(), page);
-        }
+    if !is_type(&key.kty, SYMMETRIC) {
+        page.write_str("isn't symmetric: its kty is ");
+        write_kty(&key.kty, page);
+    } else if secret_of(key).is_none() {
+        page.write_str("has no secret (k)");
+    } else if allows(&key.alg, HMAC) {
+        page.write_str("has no MAC verify (10) among its key_ops");
+    } else if let Some(alg) = &key.alg {
+        page.write_str("has another alg: ");
+        write_alg(alg, page);
     }
 }
 
-/// Writes why a symmetric key doesn't fit.
-fn write_bar_of_secret<P: fmt::Write>(key: &CoseKey, page: &mut Page<'_, P>) {
-    if secret_of(key).is_none() {
-        page.write_str("has no secret (k)");
-        return;
-    }
-    match &key.alg {
-        None => {}
-        Some(RegisteredLabelWithPrivate::Assigned(cose_iana::Algorithm::HMAC_256_256)) => {}
-        Some(alg) => {
-            page.write_str("has another alg: ");
-            write_alg(alg, page);
-            return;
+fn write_kty<P: fmt::Write>(kty: &KeyType, page: &mut Page<'_, P>) {
+    match kty {
+        RegisteredLabel::Assigned(entry) => {
+            let number = (*entry).to_i64();
+            write_named(key_type(number), number, page);
         }
+        RegisteredLabel::Text(text) => write_front(text.as_str(), page),
     }
-    page.write_str("has no MAC verify (10) among its key_ops");
 }
 
 /// Writes why a tag isn't the whole tag, if it isn't, and says whether it has. Of a tag of another

@@ -1,9 +1,10 @@
 //! What the judge of the program `cose-gate` answers, and why.
 use crate::gated::{Comparing, gate_item};
 use cose_gate_core::{Asked, CoseError, MessageKind, Refusal, Verdict};
-use cose_gate_program::{CoseKeySet, HmacJudge, message_id};
+use cose_gate_program::{CoseKeySet, HmacJudge};
 use cose_notation::{Look, mask};
 use cose_reasons::{KeyBook, OTHER_KIND, Question, Stop, reason};
+use cose_rules::{Layer, id_in};
 use coset_labels::TaggedCborSerializable;
 use coset_maced::CoseMac0;
 use std::alloc::Global;
@@ -124,5 +125,9 @@ fn shown_id(alloc: Global, look: Look, item: &[u8]) -> Result<Vec<u8>, Stop> {
 }
 
 fn id_of(message: &CoseMac0) -> &[u8] {
-    message_id(&message.protected, &message.unprotected)
+    let layer = Layer {
+        protected: &message.protected,
+        unprotected: &message.unprotected,
+    };
+    id_in(layer)
 }

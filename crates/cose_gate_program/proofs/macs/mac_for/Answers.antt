@@ -10,14 +10,14 @@ pub returns-in-Some : goal.returns-in-Some
 returns-in-Some c =
     let keys = key_set_view c.args.index.now.set.now in
     subst (λ (o : Option (List ℕ)). Makes (Some c.mac.result) o [])
-    (c.in-Some.ensures ∙ for_first keys (protected_view c.args.protected.now) (header_view c.args.unprotected.now) c.message_id.result.now (first_fit c.message_id.result.now keys)
-    (sym c.may_judge.ensures ∙ c.if-not-may_judge.false) c.message_id.ensures refl)
+    (c.in-Some.ensures ∙ for_first keys (protected_view c.args.protected.now) (header_view c.args.unprotected.now) c.id_in.result.now (first_fit c.id_in.result.now keys)
+    (sym c.may_judge.ensures ∙ c.if-not-may_judge.false) c.id_in.ensures refl)
     c.mac.ensures
 
 pub returns-in-None : goal.returns-in-None
 returns-in-None c =
     let keys = key_set_view c.args.index.now.set.now in
     subst (λ (o : Option (List ℕ)). Makes None o [])
-    (c.in-None.ensures ∙ for_first keys (protected_view c.args.protected.now) (header_view c.args.unprotected.now) c.message_id.result.now (first_fit c.message_id.result.now keys)
-    (sym c.may_judge.ensures ∙ c.if-not-may_judge.false) c.message_id.ensures refl)
+    (c.in-None.ensures ∙ for_first keys (protected_view c.args.protected.now) (header_view c.args.unprotected.now) c.id_in.result.now (first_fit c.id_in.result.now keys)
+    (sym c.may_judge.ensures ∙ c.if-not-may_judge.false) c.id_in.ensures refl)
     tt
