@@ -1,5 +1,6 @@
 -- Why a program isn't run, and what it is run with.
-use Rattle.std.proofs.Common.{◌≡◌, ℕ, List, Option, None, Some, refl, sym, subst}
+use Rattle.std.proofs.Common.{◌≡◌, ℕ, List, Option, None, Some, refl, sym, subst, inl, inr}
+use Rattle.cose_gate_command.specs.Accepted.{HasNoLines}
 use Rattle.cose_gate_command.specs.Arguments.{Arguments, AskArguments}
 use Rattle.cose_gate_command.specs.Asking.{AsksNot, IsNoAad}
 use Rattle.cose_gate_command.specs.Passing.{PassesNot, AcceptsNot}
@@ -34,8 +35,17 @@ no_aad b bytes (unrun.LineNotHex n) h = absurd h
 no_aad b bytes (unrun.LineNoRecord n) h = absurd h
 no_aad b bytes unrun.Output h = absurd h
 
+-- a line isn't AADHEX
+IsOfAad : NotRun → Type 0
+IsOfAad unrun.NotHex = Unit {0}
+IsOfAad why = ⊥
+
+no_aad_there : (bytes : List ℕ) → HasNoLines bytes unrun.NotHex → ⊥
+no_aad_there bytes (inl e) = subst IsOfAad e tt
+no_aad_there bytes (inr x) = x.8.2
+
 no_records : (b : Arguments) (bytes : List ℕ) (why : NotRun) → AcceptsNot bytes why → PassesNot (Some b) (Some bytes) why
-no_records b bytes unrun.NotHex h = absurd h.1
+no_records b bytes unrun.NotHex h = absurd (no_aad_there bytes h.1)
 no_records b bytes unrun.Memory h = tt
 no_records b bytes unrun.Usage h = h
 no_records b bytes unrun.NoFile h = h

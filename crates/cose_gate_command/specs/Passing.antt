@@ -1,5 +1,5 @@
 -- How cose-pass ends.
-use Rattle.std.specs.Prelude.{◌≡◌, ℕ, List, flat_map, get_or, Option, None, Some, Bool, true, false, Result, Ok, Err, ◌&&◌, nat_eq, nat_lt, length}
+use Rattle.std.specs.Prelude.{◌≡◌, ℕ, List, flat_map, get_or, Option, None, Some, Bool, true, false, Result, Ok, Err, ◌&&◌, nat_eq, nat_lt, length, MatchBool}
 use Rattle.ciborium_ll.specs.declared.write.Write.{Ghosts as Writes}
 use Rattle.cose_gate_core.specs.Findings.{Bounds}
 use Rattle.cose_gate_program.specs.Beginning.{aad_of}
@@ -7,6 +7,7 @@ use Rattle.cose_gate_program.specs.Program.{Devices}
 use Rattle.cose_gate_program.specs.Telling.{RanTold, writes}
 use Rattle.cose_gate_records.specs.Framing.{framed}
 use Rattle.cose_gate_records.specs.Records.{is_among}
+use Rattle.cose_gate_command.specs.Accepted.{HasLines, HasNoLines}
 use Rattle.cose_gate_command.specs.Arguments.{Arguments}
 use Rattle.cose_gate_command.specs.Ends.{bounds_by}
 use Rattle.cose_gate_command.specs.declared.not_run.NotRun.{NotRun}
@@ -18,18 +19,11 @@ is_binary file = nat_lt 7 (length file) && nat_eq (get_or file 7 0) 0
 
 -- the records of a file: those of a binary one are its bytes
 abbrev pub IsAccepted : List ℕ → List ℕ → Type 0
-IsAccepted file records = is_binary file ≡ true → records ≡ file
-
--- why lines have no records: one of them isn't one, or it is out of memory
-abbrev pub IsLineFault : NotRun → Type 0
-IsLineFault unrun.Memory = Unit {0}
-IsLineFault (unrun.LineNotHex n) = Unit {0}
-IsLineFault (unrun.LineNoRecord n) = Unit {0}
-IsLineFault why = ⊥
+IsAccepted file records = MatchBool (is_binary file) (records ≡ file) (HasLines file records)
 
 -- why a file has no records
 abbrev pub AcceptsNot : List ℕ → NotRun → Type 0
-AcceptsNot file why = (is_binary file ≡ false) × IsLineFault why
+AcceptsNot file why = (is_binary file ≡ false) × HasNoLines file why
 
 -- why it isn't run with these arguments and this file, if that can be read
 abbrev pub PassesNot : Option Arguments → Option (List ℕ) → NotRun → Type 0
