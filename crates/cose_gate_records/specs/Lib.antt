@@ -1,4 +1,5 @@
 pub mod Calls
+pub mod Digests
 pub mod Framing
 pub mod Growing
 pub mod Kept

@@ -8,15 +8,15 @@ ghost use Rattle.cose_gate_records.specs.Order.{bytes_cmp};
 use std::alloc::{AllocError, Global};
 use std::cmp::Ordering;
 
-/// The length in eight bytes.
-pub(crate) fn eight(length: usize) -> [u8; 8]
+/// A number in eight bytes, the lowest first.
+pub fn eight(length: usize) -> [u8; 8]
     ensures { result ≡ eight length }
 {
     (length as u64).to_le_bytes()
 }
 
 /// Appends the bytes after their length.
-pub(crate) fn append(text: &mut Vec<u8>, piece: &[u8]) -> Result<(), AllocError>
+pub fn append(text: &mut Vec<u8>, piece: &[u8]) -> Result<(), AllocError>
     ensures { OnOk result («text».new.items ≡ «text».old.items ++ framed piece.now) }
 {
     text.extend_from_slice(&eight(piece.len()))?;

@@ -2,14 +2,17 @@
 ghost use Rattle.std.specs.Prelude.{◌≡◌, ◌++◌, ℕ, List, [], ◌∷◌, IfOk, OnOk, OnErr, length};
 ghost use Rattle.cose_gate_core.specs.Lent.{subject_of};
 ghost use Rattle.cose_gate_core.specs.Questions.{Subject};
+ghost use Rattle.cose_gate_records.specs.Digests.{digest_by};
 ghost use Rattle.cose_gate_records.specs.Framing.{framed, key_by};
 ghost use Rattle.cose_gate_records.specs.Kept.{IsHeld, pieces_of};
 ghost use Rattle.cose_gate_records.specs.Order.{bytes_cmp};
 
+use crate::digest::digest_over;
 use crate::framing::{append, order_to, order_to_framed};
 use crate::front::front_of;
 use crate::text::length_of_key;
 use cose_gate_core::{About, Log};
+use sha2::{Digest, Sha256};
 use std::alloc::{AllocError, Global};
 use std::cmp::Ordering;
 
@@ -76,6 +79,21 @@ impl Held {
         append(&mut record, &self.covered)?;
         append(&mut record, signature)?;
         Ok(record)
+    }
+
+    /// The covered bytes so far.
+    pub fn covered(&self) -> &[u8]
+        ensures { result.now ≡ self.now.covered.items }
+    {
+        &self.covered
+    }
+
+    /// The digest of the question with this signature.
+    pub fn digest(&self, signature: &[u8]) -> [u8; 32]
+        ensures { result
+            ≡ digest_by self.now.front.items self.now.covered.items signature.now }
+    {
+        digest_over(&self.front, &Sha256::digest(&self.covered), signature)
     }
 
     /// How this key compares with the key of the question with this signature, which is not built.

@@ -1,5 +1,5 @@
-//! Judges whose answers come from elsewhere: one that tells each question as a record, and one that
-//! says yes to the questions whose records it was handed. And the gate over buffers that the caller
+//! Judges whose answers come from elsewhere: one that tells each question as a record, and two that
+//! say yes to the questions whose records, or digests, they were handed. And the gate over buffers that the caller
 //! owns: three calls, which `cose_gate_c` exports to C.
 #![tactic(auto)]
 
@@ -9,6 +9,8 @@ mod asker;
 mod asking;
 mod checking;
 mod choice;
+mod digest;
+mod digested;
 mod framing;
 mod front;
 mod growing;
@@ -32,7 +34,8 @@ pub use crate::asker::Asker;
 pub use crate::asking::ask;
 pub use crate::checking::check;
 pub use crate::choice::Choice;
-pub use crate::framing::split_first;
+pub use crate::digested::Digested;
+pub use crate::framing::{append, eight, split_first};
 pub use crate::growing::Growing;
 pub use crate::headers::{has_algorithm, has_known_crit, key_id};
 pub use crate::held::Held;

@@ -40,6 +40,14 @@ impl<'a> Ordered<'a> {
             .binary_search_by(|key| held.order(key, signature))
             .is_ok()
     }
+
+    /// Whether this key is one of these.
+    pub(crate) fn has(&self, key: &[u8]) -> bool
+        ensures { result ≡ list_any (λ place. bytes_eq place.now key.now) self.now.received.items }
+    {
+        let places = self.places.as_slice();
+        places.binary_search_by(|place| (*place).cmp(key)).is_ok()
+    }
 }
 
 /// The history of these keys. It does nothing at run time.

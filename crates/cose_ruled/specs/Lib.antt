@@ -1,1 +1,4 @@
+pub mod Asking
+pub mod Blocks
 pub mod Judging
+pub mod Told

@@ -2,8 +2,14 @@
 //! 7.1).
 #![tactic(auto)]
 
+mod about;
+mod asker;
+mod beside;
 mod judge;
+mod questions;
 mod ruling;
+mod told;
 
+pub use crate::asker::RuledAsker;
 pub use crate::judge::RuledJudge;
 pub use cose_rules::{HeaderFault, KeyFault, Refusal, Verify};

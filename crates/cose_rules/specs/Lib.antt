@@ -4,6 +4,7 @@ pub mod ClaimsSet
 pub mod Headers
 pub mod Keys
 pub mod Labels
+pub mod RefusalTexts
 pub mod Rule
 pub mod Ruled
 pub mod TokenView

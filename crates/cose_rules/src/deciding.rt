@@ -14,6 +14,7 @@ use crate::keys::{KeyFault, fits, has_id, key_fault};
 use coset_headers::{Header, ProtectedHeader};
 use coset_keys::CoseKey;
 use coset_labels::Algorithm;
+use std::fmt;
 
 /// The headers of a message or a signer.
 #[derive(Clone, Copy)]
@@ -42,6 +43,29 @@ pub enum Refusal {
     /// The message has recipients, and its key is theirs. `rule` is not for such messages.
     Recipients,
 }
+
+impl fmt::Display for Refusal {
+    ghost use Rattle.std.specs.Prelude.{Some};
+    ghost use Rattle.cose_rules.specs.RefusalTexts.{refusal_text};
+
+    ghost output = { λ why. Some (refusal_text why) };
+
+    fn fmt<W: fmt::Write>(&self, f: &mut fmt::Formatter<W>) -> fmt::Result {
+        match self {
+            Refusal::Message(fault) => fault.fmt(f),
+            Refusal::Signer(fault) => write!(f, "of a signer: {fault}"),
+            Refusal::NoAlgorithm => f.write_str("the protected header names no algorithm"),
+            Refusal::UnknownAlgorithm => {
+                f.write_str("the algorithm is not known for such messages")
+            }
+            Refusal::NoKey => f.write_str("no key has its key id"),
+            Refusal::UnfitKey(fault) => fault.fmt(f),
+            Refusal::Recipients => f.write_str("its key is that of its recipients"),
+        }
+    }
+}
+
+impl std::error::Error for Refusal {}
 
 /// Whether a question may be asked.
 #[derive(Clone, Copy)]

@@ -13,6 +13,7 @@ use ciborium_value::Value;
 use coset_headers::{Header, ProtectedHeader};
 use coset_labels::iana::{self, EnumI64};
 use coset_labels::{Label, RegisteredLabelWithPrivate};
+use std::fmt;
 
 /// Why the headers of a layer forbid to go on (RFC 9052, sections 3 and 3.1).
 #[derive(Debug, Clone, Copy, PartialEq, Eq)]
@@ -29,6 +30,29 @@ pub enum HeaderFault {
     /// A critical label isn't in the protected header.
     AbsentCritical,
 }
+
+impl fmt::Display for HeaderFault {
+    ghost use Rattle.std.specs.Prelude.{Some};
+    ghost use Rattle.cose_rules.specs.RefusalTexts.{header_text};
+
+    ghost output = { λ why. Some (header_text why) };
+
+    fn fmt<W: fmt::Write>(&self, f: &mut fmt::Formatter<W>) -> fmt::Result {
+        match self {
+            HeaderFault::ManyLabels => f.write_str("both headers have too many labels to compare"),
+            HeaderFault::SameLabel => f.write_str("a label is in both headers"),
+            HeaderFault::UnprotectedCrit => {
+                f.write_str("the unprotected header has critical labels")
+            }
+            HeaderFault::UnknownCritical => f.write_str("a critical label is not understood"),
+            HeaderFault::AbsentCritical => {
+                f.write_str("a critical label is not in the protected header")
+            }
+        }
+    }
+}
+
+impl std::error::Error for HeaderFault {}
 
 /// A label that has to be understood.
 type Critical = RegisteredLabelWithPrivate<iana::HeaderParameter>;

@@ -20,6 +20,7 @@ use coset_keys::{CoseKey, KeyOperation};
 use coset_labels::iana::EnumI64;
 use coset_labels::{Algorithm, KeyType, Label, RegisteredLabel, RegisteredLabelWithPrivate};
 use std::collections::BTreeSet;
+use std::fmt;
 
 /// Why a key isn't one for an algorithm.
 #[derive(Debug, Clone, Copy, PartialEq, Eq)]
@@ -47,6 +48,33 @@ pub enum KeyFault {
     /// Its n has fewer than 2,048 bits.
     ShortModulus,
 }
+
+impl fmt::Display for KeyFault {
+    ghost use Rattle.std.specs.Prelude.{Some};
+    ghost use Rattle.cose_rules.specs.RefusalTexts.{key_text};
+
+    ghost output = { λ why. Some (key_text why) };
+
+    fn fmt<W: fmt::Write>(&self, f: &mut fmt::Formatter<W>) -> fmt::Result {
+        match self {
+            KeyFault::OtherType => f.write_str("the key is of another type"),
+            KeyFault::OtherCurve => f.write_str("the key is on another curve"),
+            KeyFault::OtherAlgorithm => f.write_str("the key is for another algorithm"),
+            KeyFault::OtherOperation => f.write_str("the key is for other operations"),
+            KeyFault::NoAlgorithm => {
+                f.write_str("the key names no algorithm, which tags of 64 bits need")
+            }
+            KeyFault::MissingX => f.write_str("the key has no x"),
+            KeyFault::MissingY => f.write_str("the key has no y"),
+            KeyFault::MissingN => f.write_str("the key has no n"),
+            KeyFault::MissingE => f.write_str("the key has no e"),
+            KeyFault::MissingK => f.write_str("the key has no k"),
+            KeyFault::ShortModulus => f.write_str("the key has a modulus of fewer than 2,048 bits"),
+        }
+    }
+}
+
+impl std::error::Error for KeyFault {}
 
 /// The integer that a value is.
 fn integer_of(value: &Value) -> Option<Integer>
