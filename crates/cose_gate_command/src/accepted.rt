@@ -147,10 +147,10 @@ fn read_record(alloc: Global, field: &[u8], line: u64) -> Result<Vec<u8>, NotRun
         Err(FromHexError::OutOfMemory) => return Err(NotRun::Memory),
         Err(_) => return Err(NotRun::LineNotHex(line)),
     };
-    if read_question(&record).is_none() {
-        return Err(NotRun::LineNoRecord(line));
+    match read_question(&record) {
+        Some(_) => Ok(record),
+        None => Err(NotRun::LineNoRecord(line)),
     }
-    Ok(record)
 }
 
 #[cfg(test)]
