@@ -44,10 +44,12 @@ rows() {
 2|/dev/null|usage: cose-ask [--strict] [--lines] [--fields] [AADHEX]|cose-ask 01 02 < one.cbor
 2|/dev/null|usage: cose-ask [--strict] [--lines] [--fields] [AADHEX]|cose-ask $'\xff' < one.cbor
 2|/dev/null|usage: cose-ask [--strict] [--lines] [--fields] [AADHEX]|../cose-ask --strikt
-2|/dev/null|usage: cose-pass [--strict] ACCEPTED [AADHEX]|cose-pass
-2|/dev/null|usage: cose-pass [--strict] ACCEPTED [AADHEX]|cose-pass --strikt /dev/null < one.cbor
-2|/dev/null|usage: cose-pass [--strict] ACCEPTED [AADHEX]|cose-pass /dev/null $'\xff' < one.cbor
-2|/dev/null|usage: cose-pass [--strict] ACCEPTED [AADHEX]|../cose-pass
+2|/dev/null|usage: cose-pass [--digests] [--strict] ACCEPTED [AADHEX]|cose-pass
+2|/dev/null|usage: cose-pass [--digests] [--strict] ACCEPTED [AADHEX]|cose-pass --strikt /dev/null < one.cbor
+2|/dev/null|usage: cose-pass [--digests] [--strict] ACCEPTED [AADHEX]|cose-pass /dev/null $'\xff' < one.cbor
+2|/dev/null|usage: cose-pass [--digests] [--strict] ACCEPTED [AADHEX]|../cose-pass
+2|/dev/null|usage: cose-pass [--digests] [--strict] ACCEPTED [AADHEX]|cose-pass --strict --digests /dev/null < one.cbor
+2|/dev/null|usage: cose-pass [--digests] [--strict] ACCEPTED [AADHEX]|../cose-pass --digests
 0|||cose-sift --help | cmp - <(../cose-sift --help)
 2|/dev/null|usage: cose-sift [--untag] [--max BYTES] < INPUT > SIFTED|cose-sift --max < one.cbor
 2|/dev/null|usage: cose-sift [--untag] [--max BYTES] < INPUT > SIFTED|cose-sift --max 0x10 < one.cbor
@@ -147,6 +149,13 @@ rows() {
 0||passed 1, refused 0|cose-ask 01 < one.cbor > $T/one.records
 4|$T/one.records|stopped: decode: Io(EndOfFile)|cose-ask 01 < cut.cbor
 4|one.cbor|stopped: decode: Io(EndOfFile)|cose-pass $T/one.records 01 < cut.cbor
+# digests in place of records: the question's, another's, none, and a file of another length
+0|one.cbor|passed 1, refused 0|python3 ../scripts/digests.py < $T/one.records > $T/one.digests && cose-pass --digests $T/one.digests 01 < one.cbor
+1|/dev/null|passed 0, refused 1|head -c 32 /dev/zero > $T/other.digests; cose-pass --digests $T/other.digests 01 < one.cbor
+1|/dev/null|passed 0, refused 1|cose-pass --digests /dev/null 01 < one.cbor
+3|/dev/null|accepted: no digests|cose-pass --digests <(head -c 33 /dev/zero) 01 < one.cbor
+3|/dev/null|accepted: cannot be read|cose-pass --digests nosuch 01 < one.cbor
+3|/dev/null|  nosuch: no such file|../cose-pass --digests nosuch 01
 4||cose-show: damaged at 50: the input ends inside an item|cose-show cut.cbor
 4||cose-show: the input looks like text, and has to be binary (--secrets shows it as items)|printf '%040d' 0 | cose-show
 0|||[ "$(printf '%040d' 0 | cose-show)" = 'the input looks like text in hex, and has to be binary' ]

@@ -1,3 +1,4 @@
+pub mod AcceptedLines
 pub mod Arriving
 pub mod Endings
 pub mod Ends

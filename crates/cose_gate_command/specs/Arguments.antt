@@ -77,13 +77,27 @@ ask_arguments ws =
     (filter (λ w. not (is_option w)) ws)
     else None
 
--- the arguments of cose-pass: those of cose-gate without --verbose and --quiet, with ACCEPTED as
--- KEYS
-abbrev pub if_plain : Arguments → Option Arguments
-if_plain a = if a.verbose || a.quiet then None else Some a
+-- what the arguments of cose-pass ask for: [--digests] [--strict] ACCEPTED [AADHEX]
+pub record PassArguments : Type 0 where
+  pub digests : Bool
+  pub strict : Bool
+  pub accepted : List ℕ
+  pub aad : Option (List ℕ)
 
-abbrev pub pass_arguments : List (List ℕ) → Option Arguments
-pass_arguments ws = option_and_then if_plain (arguments ws)
+-- the arguments of cose-gate without --verbose and --quiet, with ACCEPTED as KEYS
+abbrev pub if_plain : Bool → Arguments → Option PassArguments
+if_plain digests a =
+    if a.verbose || a.quiet then None
+    else Some (record { digests = digests; strict = a.strict; accepted = a.keys; aad = a.aad })
+
+abbrev pub with_digests : Bool → List (List ℕ) → Option PassArguments
+with_digests digests ws = option_and_then (if_plain digests) (arguments ws)
+
+-- --digests comes first, if it is there
+abbrev pub pass_arguments : List (List ℕ) → Option PassArguments
+pass_arguments [] = None
+pass_arguments (w ∷ ws) =
+    if bytes_eq w (codes "--digests") then with_digests true ws else with_digests false (w ∷ ws)
 
 -- the same, as the code has them
 abbrev pub ask_view : HeldAsk → AskArguments
@@ -94,11 +108,10 @@ ask_view a = record {
   aad = option_copied a.aad;
 }
 
-abbrev pub pass_view : HeldPass → Arguments
+abbrev pub pass_view : HeldPass → PassArguments
 pass_view a = record {
+  digests = a.digests;
   strict = a.strict;
-  verbose = false;
-  quiet = false;
-  keys = a.accepted.now;
+  accepted = a.accepted.now;
   aad = option_copied a.aad;
 }

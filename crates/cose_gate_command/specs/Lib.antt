@@ -1,3 +1,4 @@
+pub mod Accepted
 pub mod Arguments
 pub mod Asking
 pub mod Ends

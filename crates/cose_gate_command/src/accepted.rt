@@ -1,13 +1,19 @@
 //! The file of the records that were accepted.
-ghost use Rattle.std.specs.Prelude.{◌≡◌, MatchResult, IfErr};
-ghost use Rattle.cose_gate_command.specs.Passing as spec;
-ghost use Rattle.cose_gate_command.specs.Passing.{AcceptsNot, IsAccepted, IsLineFault};
+ghost use Rattle.std.specs.Prelude.{◌≡◌, ◌⊎◌, ◌++◌, ◌∷◌, ◌<◌, ◌≤◌, ◌-◌, ℕ, List, true, false};
+ghost use Rattle.std.specs.Prelude.{length, drop, get_or, Ok};
+ghost use Rattle.std.specs.Prelude.{MatchOption, MatchResult, OnOk, IfErr, IfOk};
+ghost use Rattle.std.specs.List.{list_all};
+ghost use Rattle.hex.specs.Hex.{decode_of};
+ghost use Rattle.cose_gate_command.specs.Accepted as spec;
+ghost use Rattle.cose_gate_command.specs.Accepted.{HasLines, HasNoLines, HasRecord, IsRecord};
+ghost use Rattle.cose_gate_command.specs.Accepted.{IsBad, IsBadField, IsLastField};
+ghost use Rattle.cose_gate_command.specs.Passing.{AcceptsNot, IsAccepted, is_binary};
+ghost use Rattle.cose_gate_command.specs.declared.not_run.NotRun.TheVariants as unrun;
 
 use crate::not_run::NotRun;
 use crate::question::read_question;
 use hex::FromHexError;
 use std::alloc::Global;
-use std::mem;
 
 /// The records in the bytes of a file, which has them binary or as lines of text.
 ///
@@ -26,109 +32,125 @@ pub fn read_accepted(alloc: Global, bytes: Vec<u8>) -> Result<Vec<u8>, NotRun>
     if is_binary(&bytes) {
         return Ok(bytes);
     }
-    let mut lines = Lines::new(alloc);
-    for byte in &bytes {
-        lines.take(*byte)?;
-    }
-    lines.end_line()?;
-    Ok(lines.records)
+    read_lines(alloc, &bytes)
 }
 
 /// Whether a file is binary.
 fn is_binary(bytes: &[u8]) -> bool
-    ensures { result ≡ spec.is_binary bytes.now }
+    ensures { result ≡ is_binary bytes.now }
 {
     matches!(bytes.get(7), Some(0))
 }
 
-/// The records of the lines so far, and the last field of the line that isn't ended.
-#[derive(Drop)]
-struct Lines {
-    alloc: Global,
-    number: u64,
-    field: Vec<u8>,
-    is_field_ended: bool,
-    records: Vec<u8>,
+/// The records of the lines of a text.
+fn read_lines(alloc: Global, bytes: &[u8]) -> Result<Vec<u8>, NotRun>
+    ensures { MatchResult result (λ records. HasLines bytes.now records.items)
+        (HasNoLines bytes.now) }
+{
+    let mut records = Vec::new(alloc);
+    let mut rest = bytes;
+    let mut number = 1;
+    while let Some((line, after)) = split_line(rest) {
+        add_line(alloc, line, number, &mut records)?;
+        rest = after;
+        number += 1;
+    }
+    add_line(alloc, rest, number, &mut records)?;
+    Ok(records)
 }
 
-impl Lines {
-    /// No line yet.
-    fn new(alloc: Global) -> Lines {
-        Lines {
-            alloc,
-            number: 1,
-            field: Vec::new(alloc),
-            is_field_ended: false,
-            records: Vec::new(alloc),
+/// The first line, and what is after its line feed; `None` if there is no line feed.
+fn split_line(bytes: &[u8]) -> Option<(&[u8], &[u8])>
+    ensures { MatchOption result (spec.is_one_line bytes.now ≡ true)
+        (λ r. (bytes.now ≡ r.0.now ++ 10 ∷ r.1.now) × (spec.is_one_line r.0.now ≡ true)) }
+{
+    for at in 0..bytes.len() {
+        if bytes[at] == b'\n' {
+            return Some((&bytes[..at], &bytes[at + 1..]));
         }
     }
+    None
+}
 
-    /// Takes the next byte.
-    fn take(&mut self, byte: u8) -> Result<(), NotRun>
-        ensures { IfErr result IsLineFault }
-    {
-        match byte {
-            b'\n' => self.end_line(),
-            b' ' | b'\t' | b'\r' => {
-                self.is_field_ended = true;
-                Ok(())
-            }
-            _ => self.add(byte),
-        }
+/// Adds the record of a line.
+fn add_line(alloc: Global, line: &[u8], number: u64, records: &mut Vec<u8>) -> Result<(), NotRun>
+    ensures ok { OnOk result ((bytes : List ℕ) × HasRecord line.now bytes
+        × (records.new.items ≡ records.old.items ++ bytes)) }
+    ensures err { IfErr result (λ why. IsBad why number line.now) }
+{
+    let field = last_field(line);
+    if field.is_empty() {
+        return Ok(());
     }
+    let record = read_record(alloc, field, number)?;
+    match records.extend_from_slice(&record) {
+        Ok(()) => Ok(()),
+        Err(_) => Err(NotRun::Memory),
+    }
+}
 
-    /// Adds a byte to the field, or begins the next field with it.
-    fn add(&mut self, byte: u8) -> Result<(), NotRun>
-        ensures { IfErr result IsLineFault }
-    {
-        if self.is_field_ended {
-            self.field.clear();
-            self.is_field_ended = false;
-        }
-        match self.field.push(byte) {
-            Ok(()) => Ok(()),
-            Err(_) => Err(NotRun::Memory),
-        }
-    }
+/// The last field of a line.
+fn last_field(line: &[u8]) -> &[u8]
+    ensures { IsLastField line.now result.now }
+{
+    let end = black_end(line);
+    let line = &line[..end];
+    &line[field_start(line)..]
+}
 
-    /// Ends the line: its last field is a record, if it has fields.
-    fn end_line(&mut self) -> Result<(), NotRun>
-        ensures { IfErr result IsLineFault }
-    {
-        let field = mem::replace(&mut self.field, Vec::new(self.alloc));
-        if !field.is_empty() {
-            let record = read_record(self.alloc, &field, self.number)?;
-            self.append(&record)?;
+/// Where the blanks at the end of a line begin.
+fn black_end(line: &[u8]) -> usize
+    ensures within { result ≤ length line.now }
+    ensures back { list_all spec.is_blank (drop result line.now) ≡ true }
+    ensures black { 0 < result → spec.is_blank (get_or line.now (result - 1) 0) ≡ false }
+{
+    let mut end = line.len();
+    while 0 < end {
+        if !is_blank(line[end - 1]) {
+            return end;
         }
-        self.is_field_ended = false;
-        self.number = self.number.saturating_add(1);
-        Ok(())
+        end -= 1;
     }
+    0
+}
 
-    /// Appends a record.
-    fn append(&mut self, record: &[u8]) -> Result<(), NotRun>
-        ensures { IfErr result IsLineFault }
-    {
-        match self.records.extend_from_slice(record) {
-            Ok(()) => Ok(()),
-            Err(_) => Err(NotRun::Memory),
+/// Where the last field begins of a line that has no blank at its end.
+fn field_start(line: &[u8]) -> usize
+    ensures within { result ≤ length line.now }
+    ensures field { list_all spec.is_black (drop result line.now) ≡ true }
+    ensures blank { 0 < result → spec.is_blank (get_or line.now (result - 1) 0) ≡ true }
+{
+    let mut start = line.len();
+    while 0 < start {
+        if is_blank(line[start - 1]) {
+            return start;
         }
+        start -= 1;
     }
+    0
+}
+
+/// Whether it separates fields: a space, a tab or a carriage return.
+fn is_blank(byte: u8) -> bool
+    ensures { result ≡ spec.is_blank byte }
+{
+    matches!(byte, b' ' | b'\t' | b'\r')
 }
 
 /// The record that the field of this line encodes in hex.
 fn read_record(alloc: Global, field: &[u8], line: u64) -> Result<Vec<u8>, NotRun>
-    ensures { IfErr result IsLineFault }
+    ensures ok { IfOk result (λ r. (decode_of field.now ≡ Ok r.items) × IsRecord r.items) }
+    ensures err { IfErr result (λ why. (why ≡ unrun.Memory) ⊎ IsBadField why line field.now) }
 {
     let record = match hex::decode(alloc, field) {
         Ok(record) => record,
         Err(FromHexError::OutOfMemory) => return Err(NotRun::Memory),
         Err(_) => return Err(NotRun::LineNotHex(line)),
     };
-    if read_question(&record).is_none() {
-        return Err(NotRun::LineNoRecord(line));
+    match read_question(&record) {
+        Some(_) => Ok(record),
+        None => Err(NotRun::LineNoRecord(line)),
     }
-    Ok(record)
 }
 
 #[cfg(test)]

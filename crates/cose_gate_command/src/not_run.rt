@@ -19,6 +19,9 @@ pub enum NotRun {
     /// ACCEPTED is binary, and its bytes are not records.
     #[error("accepted: no records")]
     NoRecords,
+    /// ACCEPTED is to have digests, and its bytes are not digests.
+    #[error("accepted: no digests")]
+    NoDigests,
     /// The last field of a line of ACCEPTED is not hex.
     #[error("accepted: line {0}: not hex")]
     LineNotHex(u64),
@@ -40,8 +43,11 @@ impl NotRun {
     {
         match self {
             NotRun::Usage | NotRun::NotHex => 2,
-            NotRun::NoFile | NotRun::NoRecords | NotRun::LineNotHex(_) | NotRun::LineNoRecord(_) =>
-                3,
+            NotRun::NoFile
+            | NotRun::NoRecords
+            | NotRun::NoDigests
+            | NotRun::LineNotHex(_)
+            | NotRun::LineNoRecord(_) => 3,
             NotRun::Memory | NotRun::Output => 4,
         }
     }

@@ -43,9 +43,11 @@ pub enum Form {
 /// The arguments of `cose-pass`.
 #[derive(Debug, Clone, Copy, PartialEq, Eq)]
 pub struct PassArguments<'a> {
+    /// The file has digests of questions, in place of their records.
+    pub digests: bool,
     /// Only messages in canonical encoding pass.
     pub strict: bool,
-    /// The file with the accepted records.
+    /// The file with what was accepted.
     pub accepted: &'a str,
     /// The external data in hex.
     pub aad: Option<&'a str>,
@@ -103,16 +105,29 @@ pub fn ask_arguments(all: &[String]) -> Option<AskArguments<'_>>
     Some(asked)
 }
 
-/// The arguments `[--strict] ACCEPTED [AADHEX]`; `None` if they are others. Options may be
-/// anywhere.
+/// The arguments `[--digests] [--strict] ACCEPTED [AADHEX]`; `None` if they are others. `--digests`
+/// comes first, `--strict` may be anywhere after it.
 pub fn pass_arguments(all: &[String]) -> Option<PassArguments<'_>>
     ensures { option_map pass_view result ≡ spec.pass_arguments (map string_bytes all.now) }
 {
-    let asked = read_arguments(all)?;
+    let (first, rest) = all.split_first()?;
+    if first.as_str() != "--digests" {
+        return with_digests(false, all);
+    }
+    with_digests(true, rest)
+}
+
+/// The other arguments, with digests or with records.
+fn with_digests(digests: bool, words: &[String]) -> Option<PassArguments<'_>>
+    ensures { option_map pass_view result
+        ≡ spec.with_digests digests (map string_bytes words.now) }
+{
+    let asked = read_arguments(words)?;
     if asked.verbose || asked.quiet {
         return None;
     }
     Some(PassArguments {
+        digests,
         strict: asked.strict,
         accepted: asked.keys,
         aad: asked.aad,

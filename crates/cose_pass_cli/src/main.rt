@@ -1,6 +1,6 @@
-//! `cose-pass [--strict] ACCEPTED [AADHEX]`: reads a CBOR sequence from standard input, and writes
-//! the messages all of whose signatures were accepted to standard output. ACCEPTED is a file with
-//! the accepted records, AADHEX the external data in hex.
+//! `cose-pass [--digests] [--strict] ACCEPTED [AADHEX]`: reads a CBOR sequence from standard input,
+//! and writes the messages all of whose signatures were accepted to standard output. ACCEPTED is a
+//! file with the accepted records, or digests, AADHEX the external data in hex.
 #![tactic(auto)]
 
 use ciborium_ll::Io;
@@ -13,14 +13,14 @@ use std::process::ExitCode;
 use std::{env, fs};
 
 /// The line for other arguments.
-const USAGE: &str = "usage: cose-pass [--strict] ACCEPTED [AADHEX]\n";
+const USAGE: &str = "usage: cose-pass [--digests] [--strict] ACCEPTED [AADHEX]\n";
 
 /// What `--version` prints.
 const VERSION: &str = "cose-pass 0.8\n";
 
 /// What `-h` and `--help` print. The script `cose-pass` prints the same.
 const HELP: &str = "\
-usage: cose-pass [--strict] ACCEPTED [AADHEX] < INPUT > PASSED
+usage: cose-pass [--digests] [--strict] ACCEPTED [AADHEX] < INPUT > PASSED
 Reads a CBOR sequence, and writes the messages that pass, in canonical encoding.
 A message passes if each signature or MAC of it has its record in ACCEPTED.
 ACCEPTED: a file with records of cose-ask, run on the same input with the same
@@ -31,12 +31,14 @@ record, so a check writes no line for a bad signature. (The eighth byte of a
 record is the highest byte of its length, and always 0.) An empty file accepts
 nothing.
 AADHEX: the external data in hex, empty if it is left out.
-  --strict  refuse messages that are not in canonical encoding
+  --digests  (in front) ACCEPTED has digests of questions in place of records, 32
+             bytes each, binary: see cose-pass(1)
+  --strict   refuse messages that are not in canonical encoding
 Standard error has a line for each item, and at the end how many passed and were
 refused.
 Status 0: no item was refused. 1: some were. 2: wrong arguments, or AADHEX is not
-hex. 3: ACCEPTED can't be read, or has no records. 4: the input is not CBOR,
-input or output failed, or out of memory.
+hex. 3: ACCEPTED can't be read, or has no records or digests. 4: the input is not
+CBOR, input or output failed, or out of memory.
 ";
 
 fn main(rt: HostRuntime) -> ExitCode {
