@@ -3,23 +3,11 @@ use crate::items::read;
 use crate::out::{NoAnswer, Out};
 use crate::protected;
 use cose_rules::{
-    Audience, Layer, MAC_VERIFY, Ruling, Scheme, TokenTerms, VERIFY, claims_of, claims_refusal,
+    Audience, Layer, Ruling, Scheme, TokenTerms, VERIFY, claims_of, claims_refusal,
     first_candidate, fits, rule, untagged,
 };
 use coset::cbor::Value;
 use coset::{CoseKey, CoseKeySet, Header, Label, ProtectedHeader};
-
-/// The operation with this name.
-fn operation(to: &mut Out, name: &str) -> i64 {
-    match name {
-        "signature" => VERIFY,
-        "mac" => MAC_VERIFY,
-        _ => {
-            to.refuse(NoAnswer::NoArgument);
-            VERIFY
-        }
-    }
-}
 
 /// A protected header and an unprotected one.
 fn headers(to: &mut Out, protected: &str, unprotected: &str) -> Option<(ProtectedHeader, Header)> {
@@ -36,9 +24,9 @@ fn layer(headers: &(ProtectedHeader, Header)) -> Layer<'_> {
     }
 }
 
-/// The ruling on a message without signers of its own.
-pub fn of_message(to: &mut Out, [named, keys, protected, unprotected]: [&str; 4]) {
-    let operation = operation(to, named);
+/// The ruling on a message without signers of its own, whose key is for this operation.
+pub fn of_message(to: &mut Out, [operation, keys, protected, unprotected]: [&str; 4]) {
+    let operation = to.number(operation);
     let keys = read::<CoseKeySet>(to, keys);
     let message = headers(to, protected, unprotected);
     if let (Some(keys), Some(message)) = (&keys, &message) {
@@ -86,72 +74,66 @@ fn candidates(to: &mut Out, keys: &[CoseKey], scheme: Scheme, id: &[u8]) {
 /// Whether these claims let a token pass: the seconds that it may be at the earliest and at the
 /// latest, and `-` or what else is asked, as `iss=me,aud=you,need=4`.
 pub fn of_claims(to: &mut Out, [earliest, latest, asked, claims]: [&str; 4]) {
-    let mut needed = Vec::new(to.alloc());
-    let mut terms = Asked {
-        issuer: None,
-        audience: Audience::Nobody,
-    };
-    for word in asked.split(',') {
-        terms = terms.with(to, &mut needed, word);
-    }
+    let needed = needed(to, asked);
     let terms = TokenTerms {
         earliest: to.number(earliest),
         latest: to.number(latest),
-        issuer: terms.issuer,
-        audience: terms.audience,
+        issuer: named(asked, "iss"),
+        audience: audience(asked),
         needed: &needed,
     };
-    if let Some(value) = read::<Value>(to, claims) {
-        match claims_of(to.alloc(), value) {
-            Ok(claims) => match claims_refusal(terms, &claims) {
-                Some(refusal) => to.debug(&refusal),
-                None => to.text("passes"),
-            },
-            Err(why) => {
-                to.text("no claims: ");
-                to.debug(&why);
-            }
+    if let Some(claims) = read::<Value>(to, claims) {
+        decided(to, terms, claims);
+    }
+}
+
+fn decided(to: &mut Out, terms: TokenTerms<'_>, claims: Value) {
+    match claims_of(to.alloc(), claims) {
+        Ok(claims) => match claims_refusal(terms, &claims) {
+            Some(refusal) => to.debug(&refusal),
+            None => to.text("passes"),
+        },
+        Err(why) => {
+            to.text("no claims: ");
+            to.debug(&why);
         }
     }
 }
 
-/// Who has to have issued a token, and whom it is for.
-#[derive(Clone, Copy)]
-struct Asked<'a> {
-    issuer: Option<&'a str>,
-    audience: Audience<'a>,
-}
-
-impl<'a> Asked<'a> {
-    /// And what this word asks.
-    fn with(self, to: &mut Out, needed: &mut Vec<Label>, word: &'a str) -> Asked<'a> {
+/// The name that is asked for of this claim.
+fn named<'a>(asked: &'a str, claim: &str) -> Option<&'a str> {
+    for word in asked.split(',') {
         match word.split_once('=') {
-            Some(("iss", name)) => Asked {
-                issuer: Some(name),
-                ..self
-            },
-            Some(("aud", name)) => Asked {
-                audience: Audience::Named(name),
-                ..self
-            },
-            Some(("need", label)) => {
-                need(to, needed, label);
-                self
-            }
-            Some(_) => {
-                to.refuse(NoAnswer::NoArgument);
-                self
-            }
-            None if word == "any-aud" => Asked {
-                audience: Audience::Anyone,
-                ..self
-            },
-            None => self,
+            Some((first, name)) if first == claim => return Some(name),
+            _ => {}
         }
+    }
+    None
+}
+
+fn audience(asked: &str) -> Audience<'_> {
+    match named(asked, "aud") {
+        Some(name) => Audience::Named(name),
+        None if asked == "any-aud" => Audience::Anyone,
+        None => Audience::Nobody,
     }
 }
 
-/// One more claim that has to be there, by its number or its name.
+/// The claims that have to be there. It looks at the other words too.
+fn needed(to: &mut Out, asked: &str) -> Vec<Label> {
+    let mut needed = Vec::new(to.alloc());
+    for word in asked.split(',') {
+        match word.split_once('=') {
+            Some(("need", label)) => need(to, &mut needed, label),
+            Some(("iss" | "aud", _)) => {}
+            None if word == "-" || word == "any-aud" => {}
+            _ => to.refuse(NoAnswer::NoArgument),
+        }
+    }
+    needed
+}
+
+/// One more, by its number or its name.
 fn need(to: &mut Out, needed: &mut Vec<Label>, label: &str) {
     let label = match label.parse::<i64>() {
         Ok(number) => Ok(Label::Int(number)),
