@@ -19,6 +19,7 @@ pub mod Recording
 pub mod Refilling
 pub mod Reported
 pub mod Roads
+pub mod Ruling
 pub mod Sides
 pub mod Signing
 pub mod Tagged

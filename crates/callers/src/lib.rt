@@ -32,6 +32,7 @@ pub mod refilling;
 pub mod relaying;
 pub mod resumed;
 pub mod roads;
+pub mod ruling;
 pub mod sequels;
 pub mod signing;
 pub mod straight;

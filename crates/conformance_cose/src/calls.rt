@@ -1,8 +1,8 @@
 //! Calls by name.
 use crate::out::{NoAnswer, Out};
 use crate::{
-    errors, exact, items, keys, limits, messages, parts, protected, received, structures, tags,
-    widest,
+    errors, exact, items, keys, limits, messages, parts, protected, received, rules, structures,
+    tags, widest,
 };
 
 /// The next argument of a row, which has the others then.
@@ -74,6 +74,7 @@ fn one(to: &mut Out, call: &str, word: &str) {
         "ml-dsa-algorithm" => keys::ml_dsa_algorithm(to, word),
         "ml-dsa-variant" => keys::ml_dsa_variant(to, word),
         "symmetric-key" => keys::symmetric(to, word),
+        "untagged" => rules::inside(to, word),
         _ => of_item(to, call, word),
     }
 }
@@ -151,6 +152,8 @@ fn four(to: &mut Out, call: &str, words: [&str; 4]) {
         "within" => limits::written_back(to, words),
         "ec2-private-key" => keys::private(to, first, second, third, fourth),
         "sign-tbs-detached" => messages::sign_covered_detached(to, words),
+        "rule" => rules::of_message(to, words),
+        "claims-rule" => rules::of_claims(to, words),
         _ => to.refuse(NoAnswer::NoCall),
     }
 }
@@ -158,6 +161,7 @@ fn four(to: &mut Out, call: &str, words: [&str; 4]) {
 fn five(to: &mut Out, call: &str, first: &str, others: [&str; 4]) {
     match call {
         "sig-structure" => structures::signature(to, first, others),
+        "signer-rule" => rules::of_signer(to, first, others),
         _ => to.refuse(NoAnswer::NoCall),
     }
 }

@@ -15,6 +15,7 @@ mod parts;
 mod protected;
 mod received;
 mod rows;
+mod rules;
 mod structures;
 mod tags;
 mod widest;

@@ -1,5 +1,6 @@
-//! The gate with a judge by key ids, and with one by secrets.
+//! The gate with a judge by key ids, with one by secrets, and with one by rules.
 use crate::gating::{add_end, add_output};
+use crate::judging::read_keys;
 use crate::out::{NoAnswer, Out};
 use crate::words;
 use callers::choosing::{Secret, pass_good};
@@ -7,6 +8,7 @@ use callers::gatings::Gating;
 use callers::judging::KeyIds;
 use callers::once::{Window, relay_once};
 use callers::relaying::relay;
+use callers::ruling::pass_ruled;
 use callers::tally::Tally;
 use callers::twice::{Relay, relay_then_strictly, relay_twice, relay_wider, strictly_then_relay};
 use cose_gate::{Counts, End, GateFault, Limits};
@@ -120,6 +122,16 @@ pub fn run_good(to: &mut Out, row: &mut &str) {
         },
     ];
     let passed = pass_good(to.alloc(), &input, &aad, &secrets);
+    add_relayed(to, passed);
+}
+
+/// The messages that the rules allow under these keys and whose signatures are the covered bytes,
+/// and how the run ended.
+pub fn run_ruled(to: &mut Out, row: &mut &str) {
+    let keys = read_keys(to, row);
+    let aad = words::bytes(to, row);
+    let input = words::bytes(to, row);
+    let passed = pass_ruled(to.alloc(), &input, &aad, &keys.0);
     add_relayed(to, passed);
 }
 

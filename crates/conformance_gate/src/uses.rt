@@ -47,6 +47,7 @@ fn of_gate(to: &mut Out, name: &str, row: &mut &str) {
         "relay-once" => relaying::run_once(to, row),
         "relay-twice" => relaying::run_twice(to, row),
         "pass-good" => relaying::run_good(to, row),
+        "pass-ruled" => relaying::run_ruled(to, row),
         "run-gated" => asking::gated(to, row),
         "run-exact" => asking::exact(to, row),
         "run-accepted" => asking::accepted(to, row),

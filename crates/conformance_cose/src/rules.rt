@@ -1,0 +1,153 @@
+//! Which signatures and MACs may be asked about, and which claims let a token pass.
+use crate::items::read;
+use crate::out::{NoAnswer, Out};
+use crate::protected;
+use cose_rules::{
+    Audience, Layer, Ruling, Scheme, TokenTerms, VERIFY, claims_of, claims_refusal,
+    first_candidate, fits, rule, untagged,
+};
+use coset::cbor::Value;
+use coset::{CoseKey, CoseKeySet, Header, Label, ProtectedHeader};
+
+/// A protected header and an unprotected one.
+fn headers(to: &mut Out, protected: &str, unprotected: &str) -> Option<(ProtectedHeader, Header)> {
+    let protected = protected::read(to, protected);
+    let unprotected = read::<Header>(to, unprotected);
+    protected.zip(unprotected)
+}
+
+/// These, lent.
+fn layer(headers: &(ProtectedHeader, Header)) -> Layer<'_> {
+    Layer {
+        protected: &headers.0,
+        unprotected: &headers.1,
+    }
+}
+
+/// The ruling on a message without signers of its own, whose key is for this operation.
+pub fn of_message(to: &mut Out, [operation, keys, protected, unprotected]: [&str; 4]) {
+    let operation = to.number(operation);
+    let keys = read::<CoseKeySet>(to, keys);
+    let message = headers(to, protected, unprotected);
+    if let (Some(keys), Some(message)) = (&keys, &message) {
+        let ruling = rule(operation, &keys.0, layer(message), None);
+        ruled(to, &keys.0, ruling);
+    }
+}
+
+/// The ruling on a signature of a COSE_Sign, with the headers of its signer last.
+pub fn of_signer(to: &mut Out, keys: &str, [protected, unprotected, first, second]: [&str; 4]) {
+    let keys = read::<CoseKeySet>(to, keys);
+    let message = headers(to, protected, unprotected);
+    let signer = headers(to, first, second);
+    if let (Some(keys), Some(message), Some(signer)) = (&keys, &message, &signer) {
+        let ruling = rule(VERIFY, &keys.0, layer(message), Some(layer(signer)));
+        ruled(to, &keys.0, ruling);
+    }
+}
+
+/// The algorithm and the places of the keys that are candidates, or why nothing is asked.
+fn ruled(to: &mut Out, keys: &[CoseKey], ruling: Ruling<'_>) {
+    match ruling {
+        Ruling::Ask(scheme, id) => candidates(to, keys, scheme, id),
+        Ruling::Refuse(refusal) => to.debug(&refusal),
+    }
+}
+
+fn candidates(to: &mut Out, keys: &[CoseKey], scheme: Scheme, id: &[u8]) {
+    to.text("ask ");
+    to.show(&scheme.number);
+    to.text(", first ");
+    match first_candidate(keys, scheme, id) {
+        Some(place) => to.show(&place),
+        None => to.text("none"),
+    }
+    to.text(" of");
+    for (place, key) in keys.iter().enumerate() {
+        if fits(key, scheme, id) {
+            to.text(" ");
+            to.show(&place);
+        }
+    }
+}
+
+/// Whether these claims let a token pass: the seconds that it may be at the earliest and at the
+/// latest, and `-` or what else is asked, as `iss=me,aud=you,need=4`.
+pub fn of_claims(to: &mut Out, [earliest, latest, asked, claims]: [&str; 4]) {
+    let needed = needed(to, asked);
+    let terms = TokenTerms {
+        earliest: to.number(earliest),
+        latest: to.number(latest),
+        issuer: named(asked, "iss"),
+        audience: audience(asked),
+        needed: &needed,
+    };
+    if let Some(claims) = read::<Value>(to, claims) {
+        decided(to, terms, claims);
+    }
+}
+
+fn decided(to: &mut Out, terms: TokenTerms<'_>, claims: Value) {
+    match claims_of(to.alloc(), claims) {
+        Ok(claims) => match claims_refusal(terms, &claims) {
+            Some(refusal) => to.debug(&refusal),
+            None => to.text("passes"),
+        },
+        Err(why) => {
+            to.text("no claims: ");
+            to.debug(&why);
+        }
+    }
+}
+
+/// The name that is asked for of this claim.
+fn named<'a>(asked: &'a str, claim: &str) -> Option<&'a str> {
+    for word in asked.split(',') {
+        match word.split_once('=') {
+            Some((first, name)) if first == claim => return Some(name),
+            _ => {}
+        }
+    }
+    None
+}
+
+fn audience(asked: &str) -> Audience<'_> {
+    match named(asked, "aud") {
+        Some(name) => Audience::Named(name),
+        None if asked == "any-aud" => Audience::Anyone,
+        None => Audience::Nobody,
+    }
+}
+
+/// The claims that have to be there. It looks at the other words too.
+fn needed(to: &mut Out, asked: &str) -> Vec<Label> {
+    let mut needed = Vec::new(to.alloc());
+    for word in asked.split(',') {
+        match word.split_once('=') {
+            Some(("need", label)) => need(to, &mut needed, label),
+            Some(("iss" | "aud", _)) => {}
+            None if word == "-" || word == "any-aud" => {}
+            _ => to.refuse(NoAnswer::NoArgument),
+        }
+    }
+    needed
+}
+
+/// One more, by its number or its name.
+fn need(to: &mut Out, needed: &mut Vec<Label>, label: &str) {
+    let label = match label.parse::<i64>() {
+        Ok(number) => Ok(Label::Int(number)),
+        Err(_) => String::from_str(to.alloc(), label).map(Label::Text),
+    };
+    if let Some(label) = to.kept(label) {
+        if needed.push(label).is_err() {
+            to.refuse(NoAnswer::Memory);
+        }
+    }
+}
+
+/// What is in the tags 61 and 55799 at the front of an item.
+pub fn inside(to: &mut Out, item: &str) {
+    let item = to.bytes(item);
+    to.hex(untagged(&item));
+}
