@@ -28,7 +28,7 @@ use Rattle.cose_gate_core.specs.Findings.{judged}
 use Rattle.cose_gate_core.specs.Run.{Step, Steps, judged_by, has_passed, passes, asked_of, text_of, written_of, questions_of, output_of, entries_of, passed_count, refused_count, Course}
 use Rattle.cose_gate_core.specs.Outcome.{Rules, GateState, IsFaultOf, IsNoReaderFault, IfTooLong}
 use Rattle.cose_gate_core.specs.Misshapen.{NamesShapes}
-use Rattle.cose_gate_core.specs.Next.{Made, Reached, IsReadFault}
+use Rattle.cose_gate_core.specs.Next.{Made, Reached, RanSteps, IsReadFault}
 use Rattle.cose_gate_core.specs.GateRun.{asking, writing, noting, Ending, finished, unflushed, unreadable, no_memory, within, at_hand, taken_at, asked_at, written_at, result_of, IfOfBytes, EndsAt, FaultAt, Leaves, Ran}
 use Rattle.cose_gate_core.specs.Passing.{ItemRules, ItemSight, WentThrough, Half, HalfWritten, ItemFails, at_end, stopped_by}
 use Rattle.coset_labels.specs.Limits.{nesting_of}
@@ -185,12 +185,12 @@ module _ {T S E : Type 0} (ends : E → Bool) (live : Bool) (by : Rules T S) (ol
   ws ss = output_of by.allows by.aad ss
 
   -- no item was at hand
-  between : (r : Result Counts (GateFault E)) (done : List Step) (g : Ending E) (more rest : List ℕ) → at_hand g ≡ [] → asked_at by.allows by.aad g ≡ [] → written_at by.allows by.aad g ≡ []
+  abbrev pub between : (r : Result Counts (GateFault E)) (done : List Step) (g : Ending E) (more rest : List ℕ) → at_hand g ≡ [] → asked_at by.allows by.aad g ≡ [] → written_at by.allows by.aad g ≡ []
       → (input : List ℕ) → IfKnown old.left (λ b. b ≡ input) → Course by.limits by.allows by.aad old.offset input done more → more ≡ taken_at g ++ rest
       → EndsAt ends live by.limits by.allows by.aad old.left done rest g → Leaves g old.left new.left rest → Made by old new done
       → new.offset + length rest ≡ old.offset + length input
-      → r ≡ result_of by.allows by.aad (record { done = done; ending = g; rest = rest }) → FaultAt ends by.limits old.offset old.left rest g → NamesShapes by.limits done → Ran ends live by old new r
-  between r done g more rest hand asked written input is course whole ends_at left made stands same fault shapes = record {
+      → r ≡ result_of by.allows by.aad (record { done = done; ending = g; rest = rest }) → FaultAt ends by.limits old.offset old.left rest g → NamesShapes by.limits done → RanSteps ends live by old new done r
+  between r done g more rest hand asked written input is course whole ends_at left made stands same fault shapes = (record {
     input = input;
     is = is;
     run = record { done = done; ending = g; rest = rest };
@@ -205,7 +205,7 @@ module _ {T S E : Type 0} (ends : E → Bool) (live : Bool) (by : Rules T S) (ol
     left = left;
     fault = fault;
     shapes = subst (λ (ss : List Step). NamesShapes by.limits ss) (sym (ap (λ z. done ++ z) hand ∙ append-nil done)) shapes;
-  }
+  }, refl)
 
 -- a flush adds nothing
 pub flushed : (a b c : Option (List ℕ)) (x : List ℕ) → Keeps b c → Appends a b x → Appends a c x
@@ -236,33 +236,32 @@ module _ {T S : Type 0} (rules : Rules T S) where
   }
 
   -- the item went through, and its entry was noted
-  pub reached_step : (old new newer : GateState T S) (passed refused passed' refused' : ℕ) → Reached rules old new passed refused
+  pub reached_step : (old new newer : GateState T S) (passed refused passed' refused' : ℕ) (done : List Step) → Reached rules old new passed refused done
       → (v : Tree) (t : Moves new.left newer.left new.offset newer.offset (λ (b : List ℕ). Reads b rules.limits.nesting v)) → (verdict : Verdict)
       → WentThrough (item_rules_of rules) t.bytes v (item_sight_of new) (item_sight_of newer) verdict
       → (e : Entry) → e ≡ entry_at (passed + refused + 1) new.offset verdict → newer.state ≡ rules.folded new.state e
       → passed' ≡ passed + cond (has_passed verdict) 1 0 → refused' ≡ refused + cond (not (has_passed verdict)) 1 0
-      → Reached rules old newer passed' refused'
+      → (s : Step) × Reached rules old newer passed' refused' (done ++ s ∷ [])
   unfolding step_at
-  reached_step old new newer passed refused passed' refused' r v t verdict k e same state more less =
+  reached_step old new newer passed refused passed' refused' done r v t verdict k e same state more less =
       let s = step_at new.offset t.bytes v k.finding (entry_at (passed + refused + 1) new.offset verdict) in
-      let w = further rules old new newer passed refused r v t k.finding verdict k.finds k.verdict k.shape in
+      let w = further rules old new newer passed refused done r v t k.finding verdict k.finds k.verdict k.shape in
       let q = verdict_passes rules.limits rules.allows rules.aad k.finding verdict k.verdict in
-      record {
-        done = r.done ++ s ∷ [];
+      (s, record {
         taken = w.taken;
         steps = w.steps;
         shapes = w.shapes;
         made = record {
-          told = told_then rules old.told new.told newer.told r.done s r.made.told k.tells;
-          state = state ∙ ap (λ z. rules.folded z e) r.made.state ∙ ap (rules.folded (folded_over rules.folded old.state (entries_of r.done))) same
-              ∙ sym (folded_append rules.folded old.state (entries_of r.done) (s.entry ∷ [])) ∙ ap (folded_over rules.folded old.state) (sym (entries_then rules r.done s));
-          written = written_then old new newer r.done s r.made.written k.writes;
+          told = told_then rules old.told new.told newer.told done s r.made.told k.tells;
+          state = state ∙ ap (λ z. rules.folded z e) r.made.state ∙ ap (rules.folded (folded_over rules.folded old.state (entries_of done))) same
+              ∙ sym (folded_append rules.folded old.state (entries_of done) (s.entry ∷ [])) ∙ ap (folded_over rules.folded old.state) (sym (entries_then rules done s));
+          written = written_then old new newer done s r.made.written k.writes;
         };
-        passed_is = more ∙ ap (λ n. n + cond (has_passed verdict) 1 0) r.passed_is ∙ ap (λ b. passed_count rules.allows rules.aad r.done + cond b 1 0) q
-            ∙ sym (count_then (λ s. passes rules.allows rules.aad s.finding) r.done s);
-        refused_is = less ∙ ap (λ n. n + cond (not (has_passed verdict)) 1 0) r.refused_is ∙ ap (λ b. refused_count rules.allows rules.aad r.done + cond (not b) 1 0) q
-            ∙ sym (count_then (λ s. not (passes rules.allows rules.aad s.finding)) r.done s);
-      }
+        passed_is = more ∙ ap (λ n. n + cond (has_passed verdict) 1 0) r.passed_is ∙ ap (λ b. passed_count rules.allows rules.aad done + cond b 1 0) q
+            ∙ sym (count_then (λ s. passes rules.allows rules.aad s.finding) done s);
+        refused_is = less ∙ ap (λ n. n + cond (not (has_passed verdict)) 1 0) r.refused_is ∙ ap (λ b. refused_count rules.allows rules.aad done + cond (not b) 1 0) q
+            ∙ sym (count_then (λ s. not (passes rules.allows rules.aad s.finding)) done s);
+      })
 
   -- the bytes that were there, and what is left of them
   pub record Left (old new : GateState T S) (steps : List Step) (more : List ℕ) : Type 0 where
@@ -290,14 +289,14 @@ module _ {T S : Type 0} (rules : Rules T S) where
   judged_step n o x v m = step_at o x v (judged m) (entry_at n o (judged_by (first_no rules.allows (questions m rules.aad))))
 
   -- Ok: no byte is left
-  pub answer_whole : {E : Type 0} (ends : E → Bool) (live : Bool) (old new newer : GateState T S) (counts : Counts) → Reached rules old new counts.passed counts.refused
-      → newer.told ≡ new.told → newer.state ≡ new.state → newer.written ≡ new.written → IfKnown new.left (λ b. (b ≡ []) × (newer.left ≡ Some [])) × (newer.offset ≡ new.offset) → Ran ends live rules old newer (Ok counts)
-  answer_whole ends live old new newer counts r told state writes (none, stays) =
-      let w = left_after old new r.done r.taken r.steps [] (none_first (newer.left ≡ Some []) new.left none) in
+  pub answer_whole : {E : Type 0} (ends : E → Bool) (live : Bool) (old new newer : GateState T S) (counts : Counts) (done : List Step) → Reached rules old new counts.passed counts.refused done
+      → newer.told ≡ new.told → newer.state ≡ new.state → newer.written ≡ new.written → IfKnown new.left (λ b. (b ≡ []) × (newer.left ≡ Some [])) × (newer.offset ≡ new.offset) → RanSteps ends live rules old newer done (Ok counts)
+  answer_whole ends live old new newer counts done r told state writes (none, stays) =
+      let w = left_after old new done r.taken r.steps [] (none_first (newer.left ≡ Some []) new.left none) in
       let s : new.offset + 0 ≡ old.offset + length w.input = w.stop in
-      between ends live rules old newer (Ok counts) r.done finished [] [] refl refl refl w.input w.is w.course refl refl
-      (nothing_behind old.left new.left newer.left r.taken.bytes r.taken.taken none) (still old new newer r.done told state writes r.made) (omega arith)
-      (ap Ok (counted counts (passed_count rules.allows rules.aad r.done) (refused_count rules.allows rules.aad r.done) r.passed_is r.refused_is)) tt r.shapes
+      between ends live rules old newer (Ok counts) done finished [] [] refl refl refl w.input w.is w.course refl refl
+      (nothing_behind old.left new.left newer.left r.taken.bytes r.taken.taken none) (still old new newer done told state writes r.made) (omega arith)
+      (ap Ok (counted counts (passed_count rules.allows rules.aad done) (refused_count rules.allows rules.aad done) r.passed_is r.refused_is)) tt r.shapes
 
   -- what was to come after the steps, and how much of it was taken
   rest_stands : (old new newer : GateState T S) (P : Type 0) (input : List ℕ) (k : Partly new.left newer.left new.offset newer.offset P) → new.offset + length k.more ≡ old.offset + length input
@@ -308,147 +307,146 @@ module _ {T S : Type 0} (rules : Rules T S) where
       omega arith
 
   -- Memory, if all steps so far are made
-  memory_between : {E : Type 0} (ends : E → Bool) (live : Bool) (old new newer : GateState T S) (passed refused : ℕ) → Reached rules old new passed refused
+  memory_between : {E : Type 0} (ends : E → Bool) (live : Bool) (old new newer : GateState T S) (passed refused : ℕ) (done : List Step) → Reached rules old new passed refused done
       → newer.told ≡ new.told → newer.state ≡ new.state → newer.written ≡ new.written → (new.left ≡ Some [] → ⊥)
-      → (Q : List ℕ → Type 0) → ((b : List ℕ) → Q b → HoldsOne b) → Moves new.left newer.left new.offset newer.offset Q → Ran ends live rules old newer (Err Memory)
+      → (Q : List ℕ → Type 0) → ((b : List ℕ) → Q b → HoldsOne b) → Moves new.left newer.left new.offset newer.offset Q → RanSteps ends live rules old newer done (Err Memory)
   unfolding moved
-  memory_between ends live old new newer passed refused r told state writes some Q one t =
+  memory_between ends live old new newer passed refused done r told state writes some Q one t =
       let k = moved new.left newer.left new.offset newer.offset (Unit {0}) Q t in
-      let w = left_after old new r.done r.taken r.steps k.more k.is in
-      between ends live rules old newer (Err Memory) r.done (no_memory k.taken) k.more k.rest refl refl refl w.input w.is w.course k.whole
+      let w = left_after old new done r.taken r.steps k.more k.is in
+      between ends live rules old newer (Err Memory) done (no_memory k.taken) k.more k.rest refl refl refl w.input w.is w.course k.whole
       (known _ _ old.left (λ b left none. left (k.whole ∙ none)) (something_left old.left new.left r.taken.bytes k.more r.taken.taken k.is some), one t.bytes t.has)
       (known_before (newer.left ≡ Some k.rest) old.left new.left r.taken.bytes r.taken.taken (k.behind tt))
-      (still old new newer r.done told state writes r.made) (rest_stands old new newer (Unit {0}) w.input k w.stop) refl tt r.shapes
+      (still old new newer done told state writes r.made) (rest_stands old new newer (Unit {0}) w.input k w.stop) refl tt r.shapes
 
   -- the fault of the bytes, or Memory of the reader
-  pub answer_read : {E : Type 0} (ends : E → Bool) (live : Bool) (old new newer : GateState T S) (passed refused : ℕ) → Reached rules old new passed refused
+  pub answer_read : {E : Type 0} (ends : E → Bool) (live : Bool) (old new newer : GateState T S) (passed refused : ℕ) (done : List Step) → Reached rules old new passed refused done
       → newer.told ≡ new.told → newer.state ≡ new.state → newer.written ≡ new.written → (f : GateFault E) → IsReadFault ends rules.limits.nesting new.left newer.left new.offset newer.offset f
-      → (new.left ≡ Some [] → f ≢ Memory) → Ran ends live rules old newer (Err f)
-  answer_read {E} ends live old new newer passed refused r told state writes (Decode e) d some =
+      → (new.left ≡ Some [] → f ≢ Memory) → RanSteps ends live rules old newer done (Err f)
+  answer_read {E} ends live old new newer passed refused done r told state writes (Decode e) d some =
       let k = partly new.left newer.left new.offset newer.offset e d.3 in
-      let w = left_after old new r.done r.taken r.steps k.more k.is in
+      let w = left_after old new done r.taken r.steps k.more k.is in
       let fault : IfKnown old.left (λ b. IsFaultOf ends rules.limits.nesting (old.offset + length b) (k.taken ++ k.rest) e) =
       subst (λ (z : List ℕ). IfKnown old.left (λ b. IsFaultOf ends rules.limits.nesting (old.offset + length b) z e)) k.whole
       (fault_from ends rules.limits.nesting old.left new.left r.taken.bytes k.more old.offset new.offset e r.taken.taken k.is r.taken.grown d.1) in
-      between ends live rules old newer (Err (Decode e)) r.done (unreadable e k.taken) k.more k.rest refl refl refl w.input w.is w.course k.whole (
+      between ends live rules old newer (Err (Decode e)) done (unreadable e k.taken) k.more k.rest refl refl refl w.input w.is w.course k.whole (
         d.0,
         known _ _ old.left (λ b f. of_bytes ends rules.limits.nesting (old.offset + length b) (k.taken ++ k.rest) e f) fault,
         end_behind ends (new.offset < newer.offset) (k.taken ≢ []) old.left new.left r.taken.bytes e r.taken.taken (λ less none. (let l : length k.taken ≡ 0 = ap length none in let g = k.grown in omega arith)) d.2,
       )
       (λ is. known_before (newer.left ≡ Some k.rest) old.left new.left r.taken.bytes r.taken.taken (k.behind is))
-      (still old new newer r.done told state writes r.made) (rest_stands old new newer (IsNoReaderFault e) w.input k w.stop) refl fault r.shapes
-  answer_read ends live old new newer passed refused r told state writes Write d some = absurd d
-  answer_read ends live old new newer passed refused r told state writes Memory d some = memory_between ends live old new newer passed refused r told state writes (λ none. some none refl) HoldsOne (λ b one. one) d
+      (still old new newer done told state writes r.made) (rest_stands old new newer (IsNoReaderFault e) w.input k w.stop) refl fault r.shapes
+  answer_read ends live old new newer passed refused done r told state writes Write d some = absurd d
+  answer_read ends live old new newer passed refused done r told state writes Memory d some = memory_between ends live old new newer passed refused done r told state writes (λ none. some none refl) HoldsOne (λ b one. one) d
 
   -- Memory, if the judge was told a beginning of the questions about one more message
-  memory_asking : {E : Type 0} (ends : E → Bool) (live : Bool) (old new newer : GateState T S) (passed refused : ℕ) → Reached rules old new passed refused
+  memory_asking : {E : Type 0} (ends : E → Bool) (live : Bool) (old new newer : GateState T S) (passed refused : ℕ) (done : List Step) → Reached rules old new passed refused done
       → (v : Tree) (t : Moves new.left newer.left new.offset newer.offset (λ (b : List ℕ). Reads b rules.limits.nesting v)) → Half (item_rules_of rules) t.bytes v (item_sight_of new) (item_sight_of newer)
-      → newer.state ≡ new.state → newer.written ≡ new.written → Ran ends live rules old newer (Err Memory)
+      → newer.state ≡ new.state → newer.written ≡ new.written → RanSteps ends live rules old newer done (Err Memory)
   unfolding judged_step step_at
-  memory_asking ends live old new newer passed refused r v t h state writes =
+  memory_asking ends live old new newer passed refused done r v t h state writes =
       let s = judged_step (passed + refused + 1) new.offset t.bytes v h.message in
-      let f = further rules old new newer passed refused r v t (judged h.message) (judged_by (first_no rules.allows (questions h.message rules.aad))) h.is refl (answers_name rules.limits v (first_no rules.allows (questions h.message rules.aad))) in
-      let w = left_after old newer (r.done ++ s ∷ []) f.taken f.steps (rest_of newer.left) (rest_known newer.left) in
-      record {
+      let f = further rules old new newer passed refused done r v t (judged h.message) (judged_by (first_no rules.allows (questions h.message rules.aad))) h.is refl (answers_name rules.limits v (first_no rules.allows (questions h.message rules.aad))) in
+      let w = left_after old newer (done ++ s ∷ []) f.taken f.steps (rest_of newer.left) (rest_known newer.left) in
+      (record {
         input = w.input;
         is = w.is;
-        run = record { done = r.done; ending = within s (asking h.part.front); rest = rest_of newer.left };
+        run = record { done = done; ending = within s (asking h.part.front); rest = rest_of newer.left };
         course = w.course;
         ends_at = (front_then h.part.front (h.part.next ∷ h.part.more) (asked_of rules.allows rules.aad (judged h.message)) h.part.whole, λ whole. not_whole h.part.front h.part.more h.part.next (whole ∙ h.part.whole));
         asked = h.part.tells ∙ ap (λ z. folded_over rules.decided z h.part.front) r.made.told
-            ∙ sym (folded_append rules.decided old.told (questions_of rules.allows rules.aad r.done) h.part.front);
+            ∙ sym (folded_append rules.decided old.told (questions_of rules.allows rules.aad done) h.part.front);
         noted = state ∙ r.made.state;
-        written = subst (λ (z : List ℕ). Appends old.written newer.written z) (sym (append-nil (output_of rules.allows rules.aad r.done)))
-            (subst (λ (z : Option (List ℕ)). Appends old.written z (output_of rules.allows rules.aad r.done)) (sym writes) r.made.written);
+        written = subst (λ (z : List ℕ). Appends old.written newer.written z) (sym (append-nil (output_of rules.allows rules.aad done)))
+            (subst (λ (z : Option (List ℕ)). Appends old.written z (output_of rules.allows rules.aad done)) (sym writes) r.made.written);
         returned = refl;
         stands = w.stop;
         left = w.behind;
         fault = tt;
         shapes = f.shapes;
-      }
+      }, refl)
 
   -- Write, in the encoding of one more message
-  write_within : {E : Type 0} (ends : E → Bool) (live : Bool) (old new newer : GateState T S) (passed refused : ℕ) → Reached rules old new passed refused
+  write_within : {E : Type 0} (ends : E → Bool) (live : Bool) (old new newer : GateState T S) (passed refused : ℕ) (done : List Step) → Reached rules old new passed refused done
       → (v : Tree) (t : Moves new.left newer.left new.offset newer.offset (λ (b : List ℕ). Reads b rules.limits.nesting v)) → HalfWritten (item_rules_of rules) t.bytes v (item_sight_of new) (item_sight_of newer)
-      → newer.state ≡ new.state → Ran ends live rules old newer (Err Write)
+      → newer.state ≡ new.state → RanSteps ends live rules old newer done (Err Write)
   unfolding judged_step step_at
-  write_within ends live old new newer passed refused r v t h state =
+  write_within ends live old new newer passed refused done r v t h state =
       let s = judged_step (passed + refused + 1) new.offset t.bytes v h.message in
-      let f = further rules old new newer passed refused r v t (judged h.message) (judged_by (first_no rules.allows (questions h.message rules.aad))) h.is refl (answers_name rules.limits v (first_no rules.allows (questions h.message rules.aad))) in
-      let w = left_after old newer (r.done ++ s ∷ []) f.taken f.steps (rest_of newer.left) (rest_known newer.left) in
-      record {
+      let f = further rules old new newer passed refused done r v t (judged h.message) (judged_by (first_no rules.allows (questions h.message rules.aad))) h.is refl (answers_name rules.limits v (first_no rules.allows (questions h.message rules.aad))) in
+      let w = left_after old newer (done ++ s ∷ []) f.taken f.steps (rest_of newer.left) (rest_known newer.left) in
+      (record {
         input = w.input;
         is = w.is;
-        run = record { done = r.done; ending = within s (writing h.front); rest = rest_of newer.left };
+        run = record { done = done; ending = within s (writing h.front); rest = rest_of newer.left };
         course = w.course;
         ends_at = (h.passed, subst (λ (z : List ℕ). IsFront h.front z) (ap (λ z. cond z (text_of (judged h.message)) []) h.passed) h.front_is);
         asked = h.tells ∙ ap (λ z. folded_over rules.decided z (asked_of rules.allows rules.aad (judged h.message))) r.made.told
-            ∙ sym (folded_append rules.decided old.told (questions_of rules.allows rules.aad r.done) (asked_of rules.allows rules.aad (judged h.message)));
+            ∙ sym (folded_append rules.decided old.told (questions_of rules.allows rules.aad done) (asked_of rules.allows rules.aad (judged h.message)));
         noted = state ∙ r.made.state;
-        written = Appends-trans old.written new.written newer.written (output_of rules.allows rules.aad r.done) h.front r.made.written h.writes;
+        written = Appends-trans old.written new.written newer.written (output_of rules.allows rules.aad done) h.front r.made.written h.writes;
         returned = refl;
         stands = w.stop;
         left = w.behind;
         fault = tt;
         shapes = f.shapes;
-      }
+      }, refl)
 
   -- the item failed
-  pub answer_item : {E : Type 0} (ends : E → Bool) (live : Bool) (old new newer : GateState T S) (passed refused : ℕ) → Reached rules old new passed refused
+  pub answer_item : {E : Type 0} (ends : E → Bool) (live : Bool) (old new newer : GateState T S) (passed refused : ℕ) (done : List Step) → Reached rules old new passed refused done
       → (v : Tree) (t : Moves new.left newer.left new.offset newer.offset (λ (b : List ℕ). Reads b rules.limits.nesting v)) → (f : ItemFault)
-      → ItemFails (item_rules_of rules) t.bytes v (item_sight_of new) (item_sight_of newer) f → newer.state ≡ new.state → Ran ends live rules old newer (Err (stopped_by f))
-  answer_item ends live old new newer passed refused r v t fault.Write h state = write_within ends live old new newer passed refused r v t h state
-  answer_item ends live old new newer passed refused r v t fault.Memory (writes, inl told) state =
-      memory_between ends live old new newer passed refused r told state writes (λ none. nothing_read rules.limits.nesting new.left newer.left new.offset newer.offset v none t)
+      → ItemFails (item_rules_of rules) t.bytes v (item_sight_of new) (item_sight_of newer) f → newer.state ≡ new.state → RanSteps ends live rules old newer done (Err (stopped_by f))
+  answer_item ends live old new newer passed refused done r v t fault.Write h state = write_within ends live old new newer passed refused done r v t h state
+  answer_item ends live old new newer passed refused done r v t fault.Memory (writes, inl told) state =
+      memory_between ends live old new newer passed refused done r told state writes (λ none. nothing_read rules.limits.nesting new.left newer.left new.offset newer.offset v none t)
       (λ (b : List ℕ). Reads b rules.limits.nesting v) (λ b read. read_one b rules.limits.nesting v read) t
-  answer_item ends live old new newer passed refused r v t fault.Memory (writes, inr half) state = memory_asking ends live old new newer passed refused r v t half state writes
+  answer_item ends live old new newer passed refused done r v t fault.Memory (writes, inr half) state = memory_asking ends live old new newer passed refused done r v t half state writes
 
   -- Memory, if the item went through and the report refused its entry
-  pub answer_noting : {E : Type 0} (ends : E → Bool) (live : Bool) (old new newer : GateState T S) (passed refused : ℕ) → Reached rules old new passed refused
+  pub answer_noting : {E : Type 0} (ends : E → Bool) (live : Bool) (old new newer : GateState T S) (passed refused : ℕ) (done : List Step) → Reached rules old new passed refused done
       → (v : Tree) (t : Moves new.left newer.left new.offset newer.offset (λ (b : List ℕ). Reads b rules.limits.nesting v)) → (verdict : Verdict)
-      → WentThrough (item_rules_of rules) t.bytes v (item_sight_of new) (item_sight_of newer) verdict → newer.state ≡ new.state → Ran ends live rules old newer (Err Memory)
+      → WentThrough (item_rules_of rules) t.bytes v (item_sight_of new) (item_sight_of newer) verdict → newer.state ≡ new.state → RanSteps ends live rules old newer done (Err Memory)
   unfolding step_at
-  answer_noting ends live old new newer passed refused r v t verdict k state =
+  answer_noting ends live old new newer passed refused done r v t verdict k state =
       let s = step_at new.offset t.bytes v k.finding (entry_at (passed + refused + 1) new.offset verdict) in
-      let f = further rules old new newer passed refused r v t k.finding verdict k.finds k.verdict k.shape in
-      let w = left_after old newer (r.done ++ s ∷ []) f.taken f.steps (rest_of newer.left) (rest_known newer.left) in
-      record {
+      let f = further rules old new newer passed refused done r v t k.finding verdict k.finds k.verdict k.shape in
+      let w = left_after old newer (done ++ s ∷ []) f.taken f.steps (rest_of newer.left) (rest_known newer.left) in
+      (record {
         input = w.input;
         is = w.is;
-        run = record { done = r.done; ending = within s noting; rest = rest_of newer.left };
+        run = record { done = done; ending = within s noting; rest = rest_of newer.left };
         course = w.course;
         ends_at = tt;
         asked = k.tells ∙ ap (λ z. folded_over rules.decided z (asked_of rules.allows rules.aad k.finding)) r.made.told
-            ∙ sym (folded_append rules.decided old.told (questions_of rules.allows rules.aad r.done) (asked_of rules.allows rules.aad k.finding));
+            ∙ sym (folded_append rules.decided old.told (questions_of rules.allows rules.aad done) (asked_of rules.allows rules.aad k.finding));
         noted = state ∙ r.made.state;
-        written = Appends-trans old.written new.written newer.written (output_of rules.allows rules.aad r.done) (written_of rules.allows rules.aad k.finding) r.made.written k.writes;
+        written = Appends-trans old.written new.written newer.written (output_of rules.allows rules.aad done) (written_of rules.allows rules.aad k.finding) r.made.written k.writes;
         returned = refl;
         stands = w.stop;
         left = w.behind;
         fault = tt;
         shapes = f.shapes;
-      }
+      }, refl)
 
   -- a step was made, if so many were counted
-  some_done : (old new : GateState T S) (passed refused : ℕ) (r : Reached rules old new passed refused) → 0 < passed + refused → r.done ≢ []
-  some_done old new passed refused r some none =
+  some_done : (old new : GateState T S) (passed refused : ℕ) (done : List Step) → Reached rules old new passed refused done → 0 < passed + refused → done ≢ []
+  some_done old new passed refused done r some none =
       let p : passed ≡ 0 = r.passed_is ∙ ap (passed_count rules.allows rules.aad) none in
       let q : refused ≡ 0 = r.refused_is ∙ ap (refused_count rules.allows rules.aad) none in
       omega arith
 
   -- a live gate: all steps so far were made, and what passed could not be handed on
-  pub answer_unflushed : {E : Type 0} (ends : E → Bool) (live : Bool) (old new : GateState T S) (passed refused : ℕ) → live ≡ true → 0 < passed + refused → Reached rules old new passed refused
-      → Ran ends live rules old new (Err Write)
-  answer_unflushed ends live old new passed refused is some r =
-      let w = left_after old new r.done r.taken r.steps (rest_of new.left) (rest_known new.left) in
-      between ends live rules old new (Err Write) r.done unflushed (rest_of new.left) (rest_of new.left) refl refl refl w.input w.is w.course refl (is, some_done old new passed refused r some)
+  abbrev pub answer_unflushed : {E : Type 0} (ends : E → Bool) (live : Bool) (old new : GateState T S) (passed refused : ℕ) (done : List Step) → live ≡ true → 0 < passed + refused → Reached rules old new passed refused done
+      → RanSteps ends live rules old new done (Err Write)
+  answer_unflushed ends live old new passed refused done is some r =
+      let w = left_after old new done r.taken r.steps (rest_of new.left) (rest_known new.left) in
+      between ends live rules old new (Err Write) done unflushed (rest_of new.left) (rest_of new.left) refl refl refl w.input w.is w.course refl (is, some_done old new passed refused done r some)
       (rest_told old.left new.left r.taken.bytes r.taken.taken) r.made w.stop refl tt r.shapes
 
   -- steps that were made stay made if the output is flushed, and the report stays as it was
-  pub reached_flushed : (old new newer : GateState T S) (passed refused : ℕ) → Reached rules old new passed refused → newer.told ≡ new.told → newer.state ≡ new.state
-      → Keeps new.written newer.written → newer.offset ≡ new.offset → newer.left ≡ new.left → Reached rules old newer passed refused
-  reached_flushed old new newer passed refused r told state kept offset left = record {
-    done = r.done;
+  pub reached_flushed : (old new newer : GateState T S) (passed refused : ℕ) (done : List Step) → Reached rules old new passed refused done → newer.told ≡ new.told → newer.state ≡ new.state
+      → Keeps new.written newer.written → newer.offset ≡ new.offset → newer.left ≡ new.left → Reached rules old newer passed refused done
+  reached_flushed old new newer passed refused done r told state kept offset left = record {
     taken = record {
       bytes = r.taken.bytes;
       has = r.taken.has;
@@ -460,7 +458,7 @@ module _ {T S : Type 0} (rules : Rules T S) where
     made = record {
       told = told ∙ r.made.told;
       state = state ∙ r.made.state;
-      written = flushed old.written new.written newer.written (output_of rules.allows rules.aad r.done) kept r.made.written;
+      written = flushed old.written new.written newer.written (output_of rules.allows rules.aad done) kept r.made.written;
     };
     passed_is = r.passed_is;
     refused_is = r.refused_is;

@@ -18,7 +18,7 @@ use Rattle.ciborium.proofs.FrontLemmas.{four_taken}
 use Rattle.ciborium.proofs.StringLemmas.{title_some}
 use Rattle.cose_gate_core.specs.Findings.{Bounds}
 use Rattle.cose_gate_core.specs.GateRun.{Ran}
-use Rattle.cose_gate_core.specs.Next.{Reached, IsReadFault, Passes, PassesNext}
+use Rattle.cose_gate_core.specs.Next.{Reached, RanSteps, IsReadFault, Passes, PassesNext}
 use Rattle.cose_gate_core.specs.Outcome.{Rules, GateState, IsFaultOf, IfTooLong}
 use Rattle.cose_gate_core.specs.Passing.{ItemRules, ItemSight, WentThrough, ItemFails, fault_by, stopped_by}
 use Rattle.cose_gate_core.specs.Run.{has_passed}
@@ -142,36 +142,36 @@ passes_far ends rules l l' p p' s s' f (inr (d, same)) = read_far ends rules.lim
 -- ---- seen from the first item on
 module _ {T S E : Type 0} (ends : E → Bool) (rules : Rules T S) (old new newer : GateState T S) where
   -- it stopped, or was not taken
-  pub answer_next : (live : Bool) (passed refused : ℕ) → Reached rules old new passed refused → (f : GateFault E)
+  pub answer_next : (live : Bool) (passed refused : ℕ) (done : List Step) → Reached rules old new passed refused done → (f : GateFault E)
       → Passes ends (item_rules_of rules) new.left newer.left new.offset newer.offset (item_sight_of new) (item_sight_of newer) (Err f)
-      → newer.state ≡ new.state → (new.left ≡ Some [] → f ≢ Memory) → Ran ends live rules old newer (Err f)
-  answer_next live passed refused r f (inl (t, i, e, m)) state some =
-      subst (λ z. Ran ends live rules old newer (Err z)) (sym e)
-      (answer_item rules ends live old new newer passed refused r t (record { bytes = m.bytes; has = m.has.0; taken = m.taken; grown = m.grown }) i m.has.1 state)
-  answer_next live passed refused r f (inr (d, same)) state some =
-      answer_read rules ends live old new newer passed refused r (ap (λ s. s.told) same) state (ap (λ s. s.written) same) f d some
+      → newer.state ≡ new.state → (new.left ≡ Some [] → f ≢ Memory) → RanSteps ends live rules old newer done (Err f)
+  answer_next live passed refused done r f (inl (t, i, e, m)) state some =
+      subst (λ z. RanSteps ends live rules old newer done (Err z)) (sym e)
+      (answer_item rules ends live old new newer passed refused done r t (record { bytes = m.bytes; has = m.has.0; taken = m.taken; grown = m.grown }) i m.has.1 state)
+  answer_next live passed refused done r f (inr (d, same)) state some =
+      answer_read rules ends live old new newer passed refused done r (ap (λ s. s.told) same) state (ap (λ s. s.written) same) f d some
 
   -- no byte was left
-  pub answer_none : (live : Bool) (counts : Counts) → Reached rules old new counts.passed counts.refused
+  pub answer_none : (live : Bool) (counts : Counts) (done : List Step) → Reached rules old new counts.passed counts.refused done
       → PassesNext ends (item_rules_of rules) new.left newer.left new.offset newer.offset (item_sight_of new) (item_sight_of newer) (Ok None)
-      → newer.state ≡ new.state → Ran ends live rules old newer (Ok counts)
-  answer_none live counts r w state = answer_whole rules ends live old new newer counts r (ap (λ s. s.told) w.2) state (ap (λ s. s.written) w.2) (w.0, w.1)
+      → newer.state ≡ new.state → RanSteps ends live rules old newer done (Ok counts)
+  answer_none live counts done r w state = answer_whole rules ends live old new newer counts done r (ap (λ s. s.told) w.2) state (ap (λ s. s.written) w.2) (w.0, w.1)
 
   -- it went through, and was noted
-  pub reached_next : (passed refused passed' refused' : ℕ) → Reached rules old new passed refused → (verdict : Verdict)
+  pub reached_next : (passed refused passed' refused' : ℕ) (done : List Step) → Reached rules old new passed refused done → (verdict : Verdict)
       → Passes ends (item_rules_of rules) new.left newer.left new.offset newer.offset (item_sight_of new) (item_sight_of newer) (Ok verdict)
       → (e : Entry) → e ≡ entry_at (passed + refused + 1) new.offset verdict → newer.state ≡ rules.folded new.state e
       → passed' ≡ passed + cond (has_passed verdict) 1 0 → refused' ≡ refused + cond (not (has_passed verdict)) 1 0
-      → Reached rules old newer passed' refused'
-  reached_next passed refused passed' refused' r verdict w e same state more less =
-      reached_step rules old new newer passed refused passed' refused' r w.0 (taken_of ends (item_rules_of rules) _ _ _ _ _ _ verdict w) verdict w.1.has.1 e same state more less
+      → (s : Step) × Reached rules old newer passed' refused' (done ++ s ∷ [])
+  reached_next passed refused passed' refused' done r verdict w e same state more less =
+      reached_step rules old new newer passed refused passed' refused' done r w.0 (taken_of ends (item_rules_of rules) _ _ _ _ _ _ verdict w) verdict w.1.has.1 e same state more less
 
   -- it went through, and could not be noted
-  pub answer_unnoted : (live : Bool) (passed refused : ℕ) → Reached rules old new passed refused → (verdict : Verdict)
+  pub answer_unnoted : (live : Bool) (passed refused : ℕ) (done : List Step) → Reached rules old new passed refused done → (verdict : Verdict)
       → Passes ends (item_rules_of rules) new.left newer.left new.offset newer.offset (item_sight_of new) (item_sight_of newer) (Ok verdict)
-      → newer.state ≡ new.state → Ran ends live rules old newer (Err Memory)
-  answer_unnoted live passed refused r verdict w state =
-      answer_noting rules ends live old new newer passed refused r w.0 (taken_of ends (item_rules_of rules) _ _ _ _ _ _ verdict w) verdict w.1.has.1 state
+      → newer.state ≡ new.state → RanSteps ends live rules old newer done (Err Memory)
+  answer_unnoted live passed refused done r verdict w state =
+      answer_noting rules ends live old new newer passed refused done r w.0 (taken_of ends (item_rules_of rules) _ _ _ _ _ _ verdict w) verdict w.1.has.1 state
 
 -- ---- an item that was taken whole
 module _ {T E : Type 0} (ends : E → Bool) (rules : ItemRules T) (l l' : Option (List ℕ)) (p p' : ℕ) (s s' : ItemSight T) (P : List ℕ → Type 0) (v : Tree) (t : Moves l l' p p' P) where

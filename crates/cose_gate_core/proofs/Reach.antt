@@ -45,7 +45,7 @@ both_counts p (x ∷ xs) =
     each true = refl
     each false = refl
 
-flat_then : {X A : Type 0} (f : X → List A) (xs : List X) (x : X) → flat_map f (xs ++ x ∷ []) ≡ flat_map f xs ++ f x
+pub flat_then : {X A : Type 0} (f : X → List A) (xs : List X) (x : X) → flat_map f (xs ++ x ∷ []) ≡ flat_map f xs ++ f x
 flat_then f xs x = flat_map-append f xs (x ∷ []) ∙ ap (λ z. flat_map f xs ++ z) (append-nil (f x))
 
 -- one item more after a sequence
@@ -100,9 +100,8 @@ pub shapes_then : (limits : Bounds) (ss : List Step) (s : Step) → NamesShapes 
 shapes_then limits [] s n m = (m, tt)
 shapes_then limits (x ∷ xs) s n m = (n.0, shapes_then limits xs s n.1 m)
 
-pub reached_start : {T S : Type 0} (rules : Rules T S) (seen : GateState T S) → Reached rules seen seen 0 0
+pub reached_start : {T S : Type 0} (rules : Rules T S) (seen : GateState T S) → Reached rules seen seen 0 0 []
 reached_start rules seen = record {
-  done = [];
   taken = record { bytes = []; has = refl; taken = Consumes-nil seen.left; grown = omega arith };
   steps = tt;
   shapes = tt;
@@ -145,24 +144,24 @@ module _ {T S : Type 0} (rules : Rules T S) where
     pub steps : Steps rules.limits rules.allows rules.aad 1 (done ++ s ∷ [])
     pub shapes : NamesShapes rules.limits (done ++ s ∷ [])
 
-  pub further : (old new newer : GateState T S) (passed refused : ℕ) (r : Reached rules old new passed refused)
+  pub further : (old new newer : GateState T S) (passed refused : ℕ) (done : List Step) (r : Reached rules old new passed refused done)
       (v : Tree) (t : Moves new.left newer.left new.offset newer.offset (λ (b : List ℕ). Reads b rules.limits.nesting v)) (f : Finding) (verdict : Verdict) → Finds rules.limits t.bytes v f → IsVerdict rules.allows rules.aad f verdict → NamesShape rules.limits v verdict
-      → Further old newer r.done (step_at new.offset t.bytes v f (entry_at (passed + refused + 1) new.offset verdict))
+      → Further old newer done (step_at new.offset t.bytes v f (entry_at (passed + refused + 1) new.offset verdict))
   unfolding step_at entry_at item_at
-  further old new newer passed refused r v t f verdict finds says named =
+  further old new newer passed refused done r v t f verdict finds says named =
       let s = step_at new.offset t.bytes v f (entry_at (passed + refused + 1) new.offset verdict) in
       let a = r.taken.grown in
       let b = t.grown in
-      let count = both_counts (λ s. passes rules.allows rules.aad s.finding) r.done in
+      let count = both_counts (λ s. passes rules.allows rules.aad s.finding) done in
       let c = r.passed_is in
       let d = r.refused_is in
       record {
         taken = record {
           bytes = r.taken.bytes ++ t.bytes;
-          has = subst (λ (z : List Item). SequenceWithin rules.limits.nesting old.offset (r.taken.bytes ++ t.bytes) z []) (sym (items_then r.done s)) (sequence_then rules.limits.nesting old.offset new.offset r.taken.bytes t.bytes (map (λ s. s.item) r.done) v a r.taken.has t.has);
+          has = subst (λ (z : List Item). SequenceWithin rules.limits.nesting old.offset (r.taken.bytes ++ t.bytes) z []) (sym (items_then done s)) (sequence_then rules.limits.nesting old.offset new.offset r.taken.bytes t.bytes (map (λ s. s.item) done) v a r.taken.has t.has);
           taken = Consumes-trans old.left new.left newer.left r.taken.bytes t.bytes r.taken.taken t.taken;
           grown = omega (arith, length-append r.taken.bytes t.bytes);
         };
-        steps = steps_then rules.limits rules.allows rules.aad 1 r.done s r.steps finds (omega arith) refl says;
-        shapes = shapes_then rules.limits r.done s r.shapes named;
+        steps = steps_then rules.limits rules.allows rules.aad 1 done s r.steps finds (omega arith) refl says;
+        shapes = shapes_then rules.limits done s r.shapes named;
       }

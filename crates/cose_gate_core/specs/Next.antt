@@ -1,5 +1,5 @@
 -- How far the gate has come, and what one item more makes of that.
-use Rattle.std.specs.Prelude.{◌≡◌, ℕ, ◌+◌, ◌<◌, ◌⊎◌, List, [], length, map, Option, Some, None, Bool, Result, Ok, Err}
+use Rattle.std.specs.Prelude.{◌≡◌, ℕ, ◌+◌, ◌<◌, ◌⊎◌, List, [], ◌∷◌, ◌++◌, length, map, Option, Some, None, Bool, Result, Ok, Err}
 use Rattle.std.specs.Io.KnownBytes.{Appends}
 use Rattle.ciborium_ll.specs.Reading.{Moves}
 use Rattle.ciborium_value.specs.Tree.{Tree}
@@ -31,8 +31,7 @@ pub record Made {T S : Type 0} (rules : Rules T S) (old new : GateState T S)
 -- these steps were made, of which so many passed and so many were refused; they took the bytes of
 -- their items
 pub record Reached {T S : Type 0} (rules : Rules T S) (old new : GateState T S)
-    (passed refused : ℕ) : Type 0 where
-  pub done : List Step
+    (passed refused : ℕ) (done : List Step) : Type 0 where
   pub taken : Moves old.left new.left old.offset new.offset
       (λ b. SequenceWithin rules.limits.nesting old.offset b (map (λ s. s.item) done) [])
   pub steps : Steps rules.limits rules.allows rules.aad 1 done
@@ -80,19 +79,27 @@ PassesNext ends rules left left' at at' old new (Ok None) =
     IfKnown left (λ b. (b ≡ []) × (left' ≡ Some [])) × (at' ≡ at) × (new ≡ old)
 PassesNext ends rules left left' at at' old new (Err f) = Passes ends rules left left' at at' old new (Err f)
 
--- what became of the next item, seen from the first one on, if so many were counted before it
+-- a run in which exactly these steps were done
+abbrev pub RanSteps : {T S E : Type 0} → (E → Bool) → Bool → Rules T S → GateState T S
+    → GateState T S → List Step → Result Counts (GateFault E) → Type 0
+RanSteps ends live rules old new done result =
+    (r : Ran ends live rules old new result) × (r.run.done ≡ done)
+
+-- what became of the next item, seen from the first one on, if so many were counted before it, in
+-- these steps: it was one step more, or the run ended with these
 abbrev pub NextSince : {T S E : Type 0} → (E → Bool) → Bool → Rules T S → Counts
-    → GateState T S → GateState T S → Result (Option Counts) (GateFault E) → Type 0
-NextSince ends live rules counts first new (Ok (Some next)) =
-    Reached rules first new next.passed next.refused
-NextSince ends live rules counts first new (Ok None) =
-    Ran ends live rules first new (Ok counts)
-NextSince ends live rules counts first new (Err fault) =
-    Ran ends live rules first new (Err fault)
+    → GateState T S → GateState T S → List Step → Result (Option Counts) (GateFault E) → Type 0
+NextSince ends live rules counts first new done (Ok (Some next)) =
+    (s : Step) × Reached rules first new next.passed next.refused (done ++ s ∷ [])
+NextSince ends live rules counts first new done (Ok None) =
+    RanSteps ends live rules first new done (Ok counts)
+NextSince ends live rules counts first new done (Err fault) =
+    RanSteps ends live rules first new done (Err fault)
 
 -- the gate goes on by the next item, whatever was seen first of the items that were counted
 abbrev pub GoesOn : {T S E : Type 0} → (E → Bool) → Rules T S → Counts → GateState T S → GateState T S
     → Result (Option Counts) (GateFault E) → Type 0
 GoesOn {T} {S} ends rules counts old new r =
-    (live : Bool) (first : GateState T S) → Reached rules first old counts.passed counts.refused
-    → NextSince ends live rules counts first new r
+    (live : Bool) (first : GateState T S) (done : List Step)
+    → Reached rules first old counts.passed counts.refused done
+    → NextSince ends live rules counts first new done r

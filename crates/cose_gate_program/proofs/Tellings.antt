@@ -52,7 +52,7 @@ pub heard_state : {S : Type 0} (step : S → Notice → S) (h h' : LentTeller S)
 heard_state step h h' es e = ap (λ (z : LentTeller _). z.state) (e ∙ heard_over step h es)
 
 -- the run after a flush, and the last notice
-pub ran_told : {limits : Bounds} {allows : Question → Bool} {aad : List ℕ} {old new : Devices} {status : ℕ} {A : List Question → Type 0}
+abbrev pub ran_told : {limits : Bounds} {allows : Question → Bool} {aad : List ℕ} {old new : Devices} {status : ℕ} {A : List Question → Type 0}
     {S : Type 0} (step : S → Notice → S) (s mid s' : S) (gated : Result Count (GateFault InputFault)) (k flushed : Bool) (last : Notice) (run : GateRun InputFault)
     → Shows limits allows aad old new run k → A (asked_in allows aad run) → mid ≡ folded_over step s (items_of run.done)
     → gated ≡ result_of allows aad run → flushed ≡ k → last ≡ last_of gated flushed → s' ≡ step mid last → status ≡ status_at last

@@ -26,13 +26,15 @@ mod verdict;
 pub use crate::arguments::words;
 pub use crate::beginning::{Beginning, NotBegun, begin};
 pub use crate::blocks::Blocks;
-pub use crate::devices::{InputFault, OutputFault};
+pub use crate::devices::{Input, InputFault, OutputFault};
 pub use crate::judge::HmacJudge;
 pub use crate::keys::{find_key, fits, secret_of};
 pub use crate::lines::{hand_on, write_logged, write_notice};
 pub use crate::messages::{alg_is_hmac, crit_is_known, message_id};
 pub use crate::out_blocks::OutBlocks;
-pub use crate::program::{run, run_judged, run_over, run_over_told, run_told, run_with};
+pub use crate::program::{
+    last_of, run, run_judged, run_over, run_over_told, run_told, run_with, status_after,
+};
 pub use crate::stack::has_stack;
 pub use crate::telling::{Notice, Teller};
 pub use crate::verdict::{is_good_tag, secret_for};

@@ -110,7 +110,7 @@ pub fn run_told<R: Read, W: Write, T: Teller, J: Judge>(
 }
 
 /// What is told last of a run, by the gate's result, and whether the output was flushed.
-fn last_of(gated: Result<Counts, GateFault<InputFault>>, flushed: bool) -> Notice
+pub fn last_of(gated: Result<Counts, GateFault<InputFault>>, flushed: bool) -> Notice
     ensures { result ≡ spec.last_of gated flushed }
 {
     match gated {
@@ -121,7 +121,7 @@ fn last_of(gated: Result<Counts, GateFault<InputFault>>, flushed: bool) -> Notic
 }
 
 /// The status of the program if this is told last.
-fn status_after(last: &Notice) -> u8
+pub fn status_after(last: &Notice) -> u8
     ensures { result ≡ spec.status_at last.now }
 {
     match last {

@@ -1,4 +1,5 @@
 pub mod Asking
 pub mod Blocks
 pub mod Judging
+pub mod Running
 pub mod Told

@@ -8,8 +8,10 @@ mod beside;
 mod judge;
 mod questions;
 mod ruling;
+mod running;
 mod told;
 
 pub use crate::asker::RuledAsker;
 pub use crate::judge::RuledJudge;
+pub use crate::running::ask_ruled;
 pub use cose_rules::{HeaderFault, KeyFault, Refusal, Verify};

@@ -1,7 +1,8 @@
-use Rattle.std.proofs.Common.{◌≡◌, ◌+◌, ◌-◌, ◌≤◌, ◌^◌, true, None}
+use Rattle.std.proofs.Common.{◌≡◌, ◌+◌, ◌-◌, ◌≤◌, ◌^◌, List, true, None}
 use Rattle.ciborium_ll.specs.Views.{left_of, offset_of, reader_of, waiting_of}
 use Rattle.cose_gate_core.specs.Terms.{limits_of}
 use Rattle.cose_gate_core.specs.Next.{Reached}
+use Rattle.cose_gate_core.specs.Run.{Step}
 use Rattle.cose_gate_core.proofs.gating.gate_by.Given as goal
 
 abbrev pub invariant-items : goal.invariant-items
@@ -18,11 +19,11 @@ invariant-items g l =
       lent : w.handle l.out ≡ w.handle l.fn.out;
       fresh : l.terms.strict ≡ true → waiting_of l.decoder ≡ None;
       room : l.counts.passed + l.counts.refused + offset_of l.fn.decoder ≤ offset_of l.decoder;
-      reached : Reached
+      reached : (done : List Step) × Reached
           (record { limits = limits_of l.terms; decided = j.decided; folded = p.folded; allows = j.yes (j.who l.fn.judge); aad = l.aad })
           (record { told = j.told l.fn.judge; state = p.state l.fn.report; written = w.written l.fn.out; offset = offset_of l.fn.decoder; left = left_of r.left l.fn.decoder })
           (record { told = j.told l.judge; state = p.state l.report; written = w.written l.out; offset = offset_of l.decoder; left = left_of r.left l.decoder })
-          l.counts.passed l.counts.refused;
+          l.counts.passed l.counts.refused done;
     }
 
 abbrev pub decreases-items : goal.decreases-items

@@ -9,12 +9,12 @@ use Rattle.cose_gate_core.proofs.gating.gate_next.Goals as goal
 -- the item was not taken, or stopped
 pub returns-in_err-verdict-clause-ran : goal.returns-in_err-verdict-clause-ran
 returns-in_err-verdict-clause-ran g c =
-    rw (err_is _ _ c.from_residual.ensures.1) (λ live first come.
-    answer_next g.R.Read.ends _ _ _ _ live _ _ come _ c.in_err-verdict.ensures.ran refl (λ none same. c.in_err-verdict.ensures.no_memory_of_nothing none (ap Err same)))
+    rw (err_is _ _ c.from_residual.ensures.1) (λ live first done come.
+    answer_next g.R.Read.ends _ _ _ _ live _ _ done come _ c.in_err-verdict.ensures.ran refl (λ none same. c.in_err-verdict.ensures.no_memory_of_nothing none (ap Err same)))
 
 pub returns-in_default-clause-ran : goal.returns-in_default-clause-ran
-returns-in_default-clause-ran g c = λ live first come.
-    answer_none g.R.Read.ends _ _ _ _ live c.args.item.counts come (rw c.in_default.is at c.in_ok-verdict.ensures.ran) refl
+returns-in_default-clause-ran g c = λ live first done come.
+    answer_none g.R.Read.ends _ _ _ _ live c.args.item.counts done come (rw c.in_default.is at c.in_ok-verdict.ensures.ran) refl
 
 pub returns-in_err-verdict-clause-far : goal.returns-in_err-verdict-clause-far
 returns-in_err-verdict-clause-far g c = rw (err_is _ _ c.from_residual.ensures.1) (passes_far g.R.Read.ends _ _ _ _ _ _ _ _ c.in_err-verdict.ensures.ran)
@@ -27,8 +27,8 @@ entry_of-requires g c = let grows = item_grows _ _ _ _ _ _ (taken_of g.R.Read.en
 
 pub returns-in_err-note-clause-ran : goal.returns-in_err-note-clause-ran
 returns-in_err-note-clause-ran g c =
-    rw (err_is _ _ c.from_residual-in_err-note.ensures.1) (λ live first come.
-    answer_unnoted g.R.Read.ends _ _ _ _ live _ _ come _ (rw c.in-Some.is at c.in_ok-verdict.ensures.ran) c.in_err-note.ensures.err)
+    rw (err_is _ _ c.from_residual-in_err-note.ensures.1) (λ live first done come.
+    answer_unnoted g.R.Read.ends _ _ _ _ live _ _ done come _ (rw c.in-Some.is at c.in_ok-verdict.ensures.ran) c.in_err-note.ensures.err)
 
 pub returns-in_err-note-clause-nothing : goal.returns-in_err-note-clause-nothing
 returns-in_err-note-clause-nothing g c = λ none same small.
@@ -39,8 +39,8 @@ returns-in_err-note-clause-no_memory_of_nothing g c = λ none same.
     absurd (nothing_read _ _ _ _ _ _ none (taken_of g.R.Read.ends _ _ _ _ _ _ _ _ (rw c.in-Some.is at c.in_ok-verdict.ensures.ran)))
 
 pub returns-clause-ran : goal.returns-clause-ran
-returns-clause-ran g c = λ live first come.
-    reached_next g.R.Read.ends _ _ _ _ _ _ _ _ come _ (rw c.in-Some.is at c.in_ok-verdict.ensures.ran) _
+returns-clause-ran g c = λ live first done come.
+    reached_next g.R.Read.ends _ _ _ _ _ _ _ _ done come _ (rw c.in-Some.is at c.in_ok-verdict.ensures.ran) _
     (c.entry_of.ensures ∙ same_entry _ _ _ _ _ c.counted-counts.ensures.one c.offset-offset.ensures) c.in_ok-note.ensures.ok c.counted-counts.ensures.passed c.counted-counts.ensures.refused
 
 pub returns-clause-more : goal.returns-clause-more
