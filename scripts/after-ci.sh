@@ -40,10 +40,14 @@ rows() {
 2|/dev/null|usage: cose-gate [--strict] [--verbose] [--quiet] KEYS [AADHEX] < INPUT > PASSED|cose-gate keys.cbor --strikt < one.cbor
 2|/dev/null|usage: cose-gate --stream [--payload FILE] [--verbose] KEYS [AADHEX] < MESSAGE|cose-gate --stream --strict keys.cbor < one.cbor
 2|/dev/null|usage: cose-gate --stream [--payload FILE] [--verbose] KEYS [AADHEX] < MESSAGE|../cose-gate --stream --payload keys.cbor < one.cbor
-2|/dev/null|usage: cose-ask [--strict] [--lines] [--fields] [AADHEX]|cose-ask --strikt < one.cbor
-2|/dev/null|usage: cose-ask [--strict] [--lines] [--fields] [AADHEX]|cose-ask 01 02 < one.cbor
-2|/dev/null|usage: cose-ask [--strict] [--lines] [--fields] [AADHEX]|cose-ask $'\xff' < one.cbor
-2|/dev/null|usage: cose-ask [--strict] [--lines] [--fields] [AADHEX]|../cose-ask --strikt
+2|/dev/null|       cose-ask --keys KEYS [--strict] [AADHEX]|cose-ask --strikt < one.cbor
+2|/dev/null|       cose-ask --keys KEYS [--strict] [AADHEX]|cose-ask 01 02 < one.cbor
+2|/dev/null|       cose-ask --keys KEYS [--strict] [AADHEX]|cose-ask $'\xff' < one.cbor
+2|/dev/null|       cose-ask --keys KEYS [--strict] [AADHEX]|../cose-ask --strikt
+2|/dev/null|       cose-ask --keys KEYS [--strict] [AADHEX]|cose-ask --keys < one.cbor
+2|/dev/null|       cose-ask --keys KEYS [--strict] [AADHEX]|cose-ask --keys keys.cbor --lines 01 < one.cbor
+2|/dev/null|       cose-ask --keys KEYS [--strict] [AADHEX]|cose-ask --strict --keys keys.cbor < one.cbor
+2|/dev/null|       cose-ask --keys KEYS [--strict] [AADHEX]|../cose-ask --keys keys.cbor --fields
 2|/dev/null|usage: cose-pass [--digests] [--strict] ACCEPTED [AADHEX]|cose-pass
 2|/dev/null|usage: cose-pass [--digests] [--strict] ACCEPTED [AADHEX]|cose-pass --strikt /dev/null < one.cbor
 2|/dev/null|usage: cose-pass [--digests] [--strict] ACCEPTED [AADHEX]|cose-pass /dev/null $'\xff' < one.cbor
@@ -156,6 +160,21 @@ rows() {
 3|/dev/null|accepted: no digests|cose-pass --digests <(head -c 33 /dev/zero) 01 < one.cbor
 3|/dev/null|accepted: cannot be read|cose-pass --digests nosuch 01 < one.cbor
 3|/dev/null|  nosuch: no such file|../cose-pass --digests nosuch 01
+# blocks: the item and its question, or why it has none; the digests; what stops a run; KEYS
+0|||[ "$(cose-ask --keys keys.cbor 01 < one.cbor 2> /dev/null | python3 ../scripts/blocks.py)" = "$(printf 'item 1 at 0 to 48: passed, asked 1\n  17 5 [0] %s %s %s' $(cose-ask --lines 01 < one.cbor 2> /dev/null | cut -d ' ' -f 7,8) $(od -An -v -tx1 $T/one.digests | tr -d ' \n'))" ]
+1||passed 0, refused 1|cose-ask --keys <(printf '\201\242\1\4\40\101\0') 01 < one.cbor > $T/blocks; s=$?; [ "$(python3 ../scripts/blocks.py < $T/blocks)" = 'item 1 at 0 to 48: refused: Judged, asked 1: no key has its key id' ] && exit $s || exit 9
+0|$T/one.digests||cose-ask --keys keys.cbor 01 < one.cbor 2> /dev/null | python3 ../scripts/blocks.py --digests
+0|one.cbor|passed 1, refused 0|cose-ask --keys keys.cbor 01 < one.cbor 2> /dev/null | python3 ../scripts/blocks.py --digests > $T/from.blocks && cose-pass --digests $T/from.blocks 01 < one.cbor
+0||passed 1, refused 0|cose-ask --keys keys.cbor 01 < one.cbor > $T/one.blocks
+0||passed 1, refused 0|cose-ask --keys keys.cbor 01 --strict < one.cbor | cmp - $T/one.blocks
+4|$T/one.blocks|stopped: decode: Io(EndOfFile)|cose-ask --keys keys.cbor 01 < cut.cbor
+4||stopped: write|cose-ask --keys keys.cbor 01 < one.cbor > /dev/full
+0|$T/one.blocks||cose-ask --keys keys.cbor 01 < one.cbor 2> /dev/full
+124|$T/one.blocks|item 1 at 0: passed|{ cat one.cbor; sleep 3; } | timeout 2 cose-ask --keys keys.cbor 01
+2|/dev/null|aad: not hex|cose-ask --keys keys.cbor 0 < one.cbor
+3|/dev/null|  no such file|cose-ask --keys nosuch 01 < one.cbor
+3|/dev/null|  nosuch: no such file|../cose-ask --keys nosuch 01
+3|/dev/null|  it is text in hex, not binary|cose-ask --keys <(od -An -tx1 keys.cbor) 01 < one.cbor
 4||cose-show: damaged at 50: the input ends inside an item|cose-show cut.cbor
 4||cose-show: the input looks like text, and has to be binary (--secrets shows it as items)|printf '%040d' 0 | cose-show
 0|||[ "$(printf '%040d' 0 | cose-show)" = 'the input looks like text in hex, and has to be binary' ]

@@ -57,6 +57,7 @@ fn of_program(to: &mut Out, name: &str, row: &mut &str) {
         "command-room" => program::command_in_room(to, row),
         "ask-command" => program::ask_command(to, row),
         "ask-command-full" => program::ask_command_full(to, row),
+        "ask-keys-command" => program::ask_keys_command(to, row),
         "pass-command" => program::pass_command(to, row),
         "stream-command" => program::stream_command(to, row),
         "stream-held" => program::stream_held(to, row),

@@ -88,11 +88,30 @@ pub fn shown(held: &Held) -> &[u8] {
 
 /// The program `cose-ask` by the arguments of a command line.
 pub fn ask_command(to: &mut Out, row: &mut &str) {
+    asked(to, None, row);
+}
+
+/// The same over what the file KEYS holds.
+pub fn ask_keys_command(to: &mut Out, row: &mut &str) {
+    let keys = words::optional(to, row);
+    asked(to, keys.as_deref(), row);
+}
+
+fn asked(to: &mut Out, keys: Option<&[u8]>, row: &mut &str) {
     let input = words::bytes(to, row);
     let all = words::owned(to, row);
     let mut out = shown_writer(to);
     let mut err = shown_writer(to);
-    let end = ask(to.alloc(), &all, &mut input.as_slice(), &mut out, &mut err);
+    let mut reader = input.as_slice();
+    let end = ask(
+        to.alloc(),
+        &all,
+        keys,
+        "no such file",
+        &mut reader,
+        &mut out,
+        &mut err,
+    );
     add_end(to, end, shown(&out), shown(&err));
 }
 
@@ -106,7 +125,8 @@ pub fn ask_command_full(to: &mut Out, row: &mut &str) {
         return;
     };
     let mut out = Io::new(out);
-    let end = ask(to.alloc(), &all, &mut input.as_slice(), &mut out, &mut err);
+    let mut reader = input.as_slice();
+    let end = ask(to.alloc(), &all, None, "", &mut reader, &mut out, &mut err);
     let (taken, _) = out.into_inner().into_parts();
     add_end(to, end, &taken.into_inner(), shown(&err));
 }

@@ -1,19 +1,23 @@
 //! `cose-ask [--strict] [--lines] [--fields] [AADHEX]`: reads a CBOR sequence from standard input,
 //! and writes the records of all questions that the gate asks about it to standard output. AADHEX
-//! is the external data in hex.
+//! is the external data in hex. `cose-ask --keys KEYS [--strict] [AADHEX]`: writes a block for each
+//! item, with the questions that the rules allow under the keys of the file KEYS.
 #![tactic(auto)]
 
 use ciborium_ll::Io;
 use cose_gate_command::{
-    NotRun, ask, asks_for_help, asks_for_version, ended, hand_on_in_blocks, read_in_blocks,
-    words_of, write_help, write_in_blocks,
+    Content, NotRun, ask, ask_arguments, asks_for_help, asks_for_version, ended, hand_on_in_blocks,
+    read_in_blocks, words_of, write_help, write_in_blocks,
 };
 use cose_gate_program::{Blocks, has_stack};
-use std::env;
 use std::process::ExitCode;
+use std::{env, fs};
 
 /// The line for other arguments.
-const USAGE: &str = "usage: cose-ask [--strict] [--lines] [--fields] [AADHEX]\n";
+const USAGE: &str = "\
+usage: cose-ask [--strict] [--lines] [--fields] [AADHEX]
+       cose-ask --keys KEYS [--strict] [AADHEX]
+";
 
 /// What `--version` prints.
 const VERSION: &str = "cose-ask 0.8\n";
@@ -21,6 +25,7 @@ const VERSION: &str = "cose-ask 0.8\n";
 /// What `-h` and `--help` print. The script `cose-ask` prints the same.
 const HELP: &str = "\
 usage: cose-ask [--strict] [--lines] [--fields] [AADHEX] < INPUT > QUESTIONS
+       cose-ask --keys KEYS [--strict] [AADHEX] < INPUT > BLOCKS
 Reads a CBOR sequence, and writes a record for each signature and MAC that has to
 be checked. Check them, and give the records of the good ones to cose-pass.
 AADHEX: the external data in hex, empty if it is left out.
@@ -33,10 +38,15 @@ AADHEX: the external data in hex, empty if it is left out.
   --fields  lines that have three fields more, after KIND: ALG=-7, the number of
             the protected algorithm; KID=, the key id in hex; CRIT=unknown if a
             critical label isn't 1, 2 or 4. ALG=tstr is no number, - is for none.
+  --keys    (in front) a block for each item, binary, with what to check of it by
+            the rules for headers and keys: see cose-ask(1). KEYS: a file with a
+            COSE_KeySet. Check the signatures under the keys that a block names,
+            and give the digests of good ones to cose-pass --digests.
   --strict  refuse messages that are not in canonical encoding
 Standard error has a line for each item, as if every signature were good.
 Status 0: no item was refused. 1: some were. 2: wrong arguments, or AADHEX is not
-hex. 4: the input is not CBOR, input or output failed, or out of memory.
+hex. 3: KEYS can't be read, or is no key set. 4: the input is not CBOR, input or
+output failed, or out of memory.
 ";
 
 fn main(rt: HostRuntime) -> ExitCode {
@@ -55,11 +65,20 @@ fn start(rt: &HostRuntime) -> Result<u8, NotRun> {
     if asks_for_version(words.as_slice()) {
         return write_help(VERSION, &mut rt.stdout());
     }
-    run(rt, words.as_slice())
+    let keys = read_keys(rt, words.as_slice())?;
+    run(rt, words.as_slice(), keys)
 }
 
-/// Runs it over the standard streams.
-fn run(rt: &HostRuntime, words: &[String]) -> Result<u8, NotRun> {
+/// What the file KEYS holds, if the arguments name one.
+fn read_keys(rt: &HostRuntime, words: &[String]) -> Result<Content, NotRun> {
+    match ask_arguments(words).and_then(|asked| asked.keys) {
+        Some(keys) => Content::of_file(fs::read(rt, keys)),
+        None => Ok(Content::none("")),
+    }
+}
+
+/// Runs it over the file KEYS and the standard streams.
+fn run(rt: &HostRuntime, words: &[String], keys: Content) -> Result<u8, NotRun> {
     let alloc = rt.alloc();
     let input = read_in_blocks(alloc, rt.stdin())?;
     let mut output = hand_on_in_blocks(alloc, rt.stdout())?;
@@ -67,6 +86,8 @@ fn run(rt: &HostRuntime, words: &[String]) -> Result<u8, NotRun> {
     let end = ask(
         alloc,
         words,
+        keys.bytes.as_deref(),
+        keys.fault,
         &mut Blocks::new(input),
         &mut output,
         &mut Io::new(&mut lines),

@@ -10,7 +10,7 @@ use Rattle.cose_gate_core.specs.declared.gating.Counts.{Counts as Count}
 use Rattle.cose_gate_core.specs.declared.gating.GateFault.{GateFault}
 use Rattle.cose_gate_core.specs.declared.report.Entry.{Entry}
 use Rattle.cose_gate_program.specs.Lines.{line_of, lines_of}
-use Rattle.cose_gate_core.specs.GateRun.{result_of}
+use Rattle.cose_gate_core.specs.GateRun.{GateRun, result_of}
 use Rattle.cose_gate_program.specs.Program.{Devices}
 use Rattle.cose_gate_program.specs.Telling.{RanTold, last_of, told_in}
 use Rattle.cose_gate_program.specs.Writing.{Wrote, WroteSince, HandedOn}
@@ -96,6 +96,22 @@ last_written w first mid err' so result last ns same h one =
     subst (λ (z : List ℕ). Wrote w first err' z) (said_so so h.0 h.1 ns h.2 h.4 ∙ so_if so result ns same)
     (wrote_then w first mid err' (lines_of h.0) (last_line so (Some h.1)) h.5 said)
 
+-- the last line waits
+pub held_by : {W F : Type 0} (w : Writes W F) (allows : Question → Bool) (aad : List ℕ) (run : GateRun InputFault) (flushed : Bool) (s s' : Waiting W) (first now : W) (last : Option Notice)
+    → s' ≡ folded_over waits_after s (told_in allows aad run flushed)
+    → s.begun ≡ first ∷ [] → s.said ≡ [] → WroteSince w s'.begun now (lines_of s'.said) → last ≡ s'.last
+    → Held w first now last (told_in allows aad run flushed)
+held_by w allows aad run flushed s s' first now last told begun none spoke is =
+    let es = entries_of run.done in
+    let items : List Notice = map (λ e. Item e) es in
+    let n : Notice = last_of (result_of allows aad run) flushed in
+    let e : s' ≡ record s { said = s.said ++ items; last = Some n } = told ∙ over_run s es n (it_waits (result_of allows aad run) flushed) in
+    let said : s'.said ≡ items = ap (λ (z : Waiting _). z.said) e ∙ ap (λ (z : List Notice). z ++ items) none in
+    let since : s'.begun ≡ first ∷ [] = ap (λ (z : Waiting _). z.begun) e ∙ begun in
+    let wrote : Wrote w first now (lines_of items)
+    = subst (λ (z : List _). WroteSince w z now (lines_of items)) since (subst (λ (z : List Notice). WroteSince w s'.begun now (lines_of z)) said spoke) in
+    (items, n, refl, is ∙ ap (λ (z : Waiting _). z.last) e, only_items es n (no_item (result_of allows aad run) flushed), wrote)
+
 -- the run whose last line waits
 pub waited : {limits : Bounds} {allows : Question → Bool} {aad : List ℕ} {old new : Devices} {status : ℕ} {A : List Question → Type 0} {W F : Type 0}
     (w : Writes W F) (s s' : Waiting W) (first now : W) (last : Option Notice)
@@ -107,16 +123,7 @@ waited {allows = allows} {aad = aad} w s s' first now last r begun none spoke is
   flushed = r.flushed;
   shows = r.shows;
   asked = r.asked;
-  told =
-      let es = entries_of r.run.done in
-      let items : List Notice = map (λ e. Item e) es in
-      let n : Notice = last_of (result_of allows aad r.run) r.flushed in
-      let e : s' ≡ record s { said = s.said ++ items; last = Some n } = r.told ∙ over_run s es n (it_waits (result_of allows aad r.run) r.flushed) in
-      let said : s'.said ≡ items = ap (λ (z : Waiting _). z.said) e ∙ ap (λ (z : List Notice). z ++ items) none in
-      let since : s'.begun ≡ first ∷ [] = ap (λ (z : Waiting _). z.begun) e ∙ begun in
-      let wrote : Wrote w first now (lines_of items)
-      = subst (λ (z : List _). WroteSince w z now (lines_of items)) since (subst (λ (z : List Notice). WroteSince w s'.begun now (lines_of z)) said spoke) in
-      (items, n, refl, is ∙ ap (λ (z : Waiting _). z.last) e, only_items es n (no_item (result_of allows aad r.run) r.flushed), wrote);
+  told = held_by w allows aad r.run r.flushed s s' first now last r.told begun none spoke is;
   status_is = r.status_is;
 }
 

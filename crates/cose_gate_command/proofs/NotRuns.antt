@@ -10,8 +10,8 @@ use Rattle.cose_gate_command.specs.declared.not_run.NotRun.TheVariants as unrun
 pub asks_usage : (a : Option AskArguments) → a ≡ None → AsksNot a unrun.Usage
 asks_usage a e = subst (λ (z : Option AskArguments). AsksNot z unrun.Usage) (sym e) refl
 
-pub asks_not : (a : Option AskArguments) (b : AskArguments) (why : NotRun) → a ≡ Some b → IsNoAad b.aad why → AsksNot a why
-asks_not a b why e h = subst (λ (z : Option AskArguments). AsksNot z why) (sym e) h
+pub asks_not : (a : Option AskArguments) (b : AskArguments) (why : NotRun) → a ≡ Some b → b.keys ≡ None → IsNoAad b.aad why → AsksNot a why
+asks_not a b why e k h = subst (λ (z : Option AskArguments). AsksNot z why) (sym e) (k, h)
 
 pub passes_usage : (a : Option PassArguments) (file : Option (List ℕ)) → a ≡ None → PassesNot a file unrun.Usage
 passes_usage a file e = subst (λ (z : Option PassArguments). PassesNot z file unrun.Usage) (sym e) refl

@@ -57,25 +57,43 @@ arguments ws =
     (filter (λ w. not (is_option w)) ws)
     else None
 
--- what the arguments of cose-ask ask for: [--strict] [--lines] [--fields] [AADHEX]
+-- what the arguments of cose-ask ask for: [--strict] [--lines] [--fields] [AADHEX], or
+-- --keys KEYS [--strict] [AADHEX]
 pub record AskArguments : Type 0 where
+  pub keys : Option (List ℕ)
   pub strict : Bool
   pub lines : Bool
   pub fields : Bool
   pub aad : Option (List ℕ)
 
-abbrev pub of_aad : Bool → Bool → Bool → List (List ℕ) → Option AskArguments
-of_aad s l f [] = Some (record { strict = s; lines = l; fields = f; aad = None })
-of_aad s l f (aad ∷ []) = Some (record { strict = s; lines = l; fields = f; aad = Some aad })
-of_aad s l f (aad ∷ more ∷ ws) = None
+abbrev pub of_aad : Option (List ℕ) → Bool → Bool → Bool → List (List ℕ) → Option AskArguments
+of_aad k s l f [] = Some (record { keys = k; strict = s; lines = l; fields = f; aad = None })
+of_aad k s l f (aad ∷ []) =
+    Some (record { keys = k; strict = s; lines = l; fields = f; aad = Some aad })
+of_aad k s l f (aad ∷ more ∷ ws) = None
 
-abbrev pub ask_arguments : List (List ℕ) → Option AskArguments
-ask_arguments ws =
+-- the arguments without --keys, or those after KEYS
+abbrev pub with_keys : Option (List ℕ) → List (List ℕ) → Option AskArguments
+with_keys keys ws =
     if are_known asks ws
-    then of_aad (has (codes "--strict") ws) (has (codes "--lines") ws)
+    then of_aad keys (has (codes "--strict") ws) (has (codes "--lines") ws)
     (has (codes "--fields") ws)
     (filter (λ w. not (is_option w)) ws)
     else None
+
+-- with --keys there is no form of questions
+abbrev pub if_formless : AskArguments → Option AskArguments
+if_formless a = if a.lines || a.fields then None else Some a
+
+abbrev pub with_file : List (List ℕ) → Option AskArguments
+with_file [] = None
+with_file (keys ∷ ws) = option_and_then if_formless (with_keys (Some keys) ws)
+
+-- --keys comes first, if it is there, and then KEYS
+abbrev pub ask_arguments : List (List ℕ) → Option AskArguments
+ask_arguments [] = with_keys None []
+ask_arguments (w ∷ ws) =
+    if bytes_eq w (codes "--keys") then with_file ws else with_keys None (w ∷ ws)
 
 -- what the arguments of cose-pass ask for: [--digests] [--strict] ACCEPTED [AADHEX]
 pub record PassArguments : Type 0 where
@@ -102,6 +120,7 @@ pass_arguments (w ∷ ws) =
 -- the same, as the code has them
 abbrev pub ask_view : HeldAsk → AskArguments
 ask_view a = record {
+  keys = option_copied a.keys;
   strict = a.strict;
   lines = a.lines;
   fields = a.fields;

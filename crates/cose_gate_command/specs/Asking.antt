@@ -1,24 +1,31 @@
 -- How cose-ask ends.
-use Rattle.std.specs.Prelude.{◌≡◌, ℕ, ◌+◌, List, [], flat_map, take, Option, None, Some, true, Result, Ok, Err}
+use Rattle.std.specs.Prelude.{◌≡◌, ℕ, ◌+◌, ◌<◌, List, [], ◌∷◌, flat_map, take, Option, None, Some, MatchOption, false, true, Result, Ok, Err}
 use Rattle.std.specs.Io.KnownBytes.{Appends}
 use Rattle.ciborium_ll.specs.Device.{AppendsFront}
 use Rattle.ciborium_ll.specs.declared.read.Read.{Ghosts as Reads}
 use Rattle.ciborium_ll.specs.declared.write.Write.{Ghosts as Writes}
+use Rattle.coset_labels.specs.Reading.{HasItem}
+use Rattle.coset_keys.specs.Fields.{KeyFields}
+use Rattle.coset_keys.specs.Keys.{HasKeySet}
 use Rattle.cose_gate_core.specs.Findings.{Bounds}
 use Rattle.cose_gate_core.specs.Questions.{Question}
-use Rattle.cose_gate_program.specs.Beginning.{aad_of}
+use Rattle.cose_gate_program.specs.Beginning as begin
+use Rattle.cose_gate_program.specs.Beginning.{aad_of, BeginsNot}
 use Rattle.cose_gate_program.specs.Lines.{line_of, lines_of}
 use Rattle.cose_gate_program.specs.Program.{Devices}
-use Rattle.cose_gate_program.specs.Telling.{RanTold}
+use Rattle.cose_gate_program.specs.Telling.{RanTold, writes}
 use Rattle.cose_gate_program.specs.Writing.{Wrote}
+use Rattle.cose_gate_program.specs.declared.beginning.NotBegun.{NotBegun as Unbegun}
 use Rattle.cose_gate_program.specs.declared.telling.Notice.{Notice}
 use Rattle.cose_gate_program.specs.declared.telling.Notice.TheVariants as notice
 use Rattle.cose_gate_command.specs.Arguments.{AskArguments}
 use Rattle.cose_gate_command.specs.Ends.{bounds_by}
 use Rattle.cose_gate_command.specs.Lines.{form_of, told_as}
+use Rattle.cose_gate_command.specs.RunLines.{Says}
 use Rattle.cose_gate_command.specs.declared.not_run.NotRun.{NotRun}
 use Rattle.cose_gate_command.specs.declared.not_run.NotRun.TheVariants as unrun
 use Rattle.cose_gate_command.specs.declared.options.Form.{Form}
+use Rattle.cose_ruled.specs.Running.{RanAsking}
 
 -- the status if a program doesn't run, or ends without its output
 abbrev pub status_of : NotRun → ℕ
@@ -35,10 +42,10 @@ IsNoAad aad unrun.Memory = Unit {0}
 IsNoAad aad why = ⊥
 
 -- why it isn't run with these arguments: there are none, or AADHEX is no hex, or it is out of
--- memory
+-- memory; with --keys other lines say so
 abbrev pub AsksNot : Option AskArguments → NotRun → Type 0
 AsksNot None why = why ≡ unrun.Usage
-AsksNot (Some a) why = IsNoAad a.aad why
+AsksNot (Some a) why = (a.keys ≡ None) × IsNoAad a.aad why
 
 -- a reader alone: its output goes nowhere
 abbrev pub reading : {R E : Type 0} → Reads R E → R → Devices
@@ -104,12 +111,44 @@ Asked w e limits form aad old new out out' err err' result = (status : ℕ)
     (λ asked. Hands w form out out' result asked)
     (λ notices. Wrote e err err' (lines_if result notices))
 
--- how cose-ask ends with these arguments: that, or it isn't run, and nothing was read, written or
--- told
+-- a reader, and how often a writer has failed
+abbrev pub with_failures : {W F : Type 0} → Writes W F → W → Devices → Devices
+with_failures w out d = record d { write_failures = w.failed out }
+
+-- how cose-ask --keys ends with what KEYS holds, which can't be read for this fault if it holds
+-- nothing, and the external data: the gate asked by the rules under the keys of KEYS, its blocks are
+-- handed out, and its lines written; or the run doesn't begin, as that of cose-gate, and nothing was
+-- read or handed out
+pub data AsksByRules {W F E G : Type 0} (w : Writes W F) (e : Writes E G) (limits : Bounds)
+    (keys : Option (List ℕ)) (fault : List ℕ) (aad : Option (List ℕ)) (old new : Devices)
+    (out out' : W) (err err' : E) (status : ℕ) : Type 0 where
+  not_begun : (why : Unbegun) → BeginsNot keys aad why → status ≡ begin.status_of why → new ≡ old
+      → out' ≡ out → Says e false false fault keys err err' (notice.NotBegun why ∷ [])
+      → AsksByRules w e limits keys fault aad old new out out' err err' status
+  after_run : (b d : List ℕ) → keys ≡ Some b → aad ≡ Some d
+      → (ks : List KeyFields) → HasItem HasKeySet b ks
+      → RanAsking w limits ks d (with_failures w out old) (with_failures w out' new) out out' status
+      (writes e err err')
+      → AsksByRules w e limits keys fault aad old new out out' err err' status
+
+-- how cose-ask ends with these arguments, and what KEYS holds if they name it: that, with --keys or
+-- without; or it isn't run, and nothing was read, written or told
 pub data Asks {W F E G : Type 0} (w : Writes W F) (e : Writes E G) (a : Option AskArguments)
-    (old new : Devices) (out out' : W) (err err' : E) (result : Result ℕ NotRun) : Type 0 where
+    (keys : Option (List ℕ)) (fault : List ℕ) (old new : Devices) (out out' : W) (err err' : E)
+    (result : Result ℕ NotRun) : Type 0 where
   not_run : (why : NotRun) → AsksNot a why → result ≡ Err why → new ≡ old → out' ≡ out
-      → err' ≡ err → Asks w e a old new out out' err err' result
-  after_run : (b : AskArguments) → a ≡ Some b → (d : List ℕ) → aad_of b.aad ≡ Some d
+      → err' ≡ err → Asks w e a keys fault old new out out' err err' result
+  after_run : (b : AskArguments) → a ≡ Some b → b.keys ≡ None → (d : List ℕ)
+      → aad_of b.aad ≡ Some d
       → Asked w e (bounds_by b.strict) (form_of b.lines b.fields) d old new out out' err err' result
-      → Asks w e a old new out out' err err' result
+      → Asks w e a keys fault old new out out' err err' result
+  by_rules : (b : AskArguments) → a ≡ Some b → (name : List ℕ) → b.keys ≡ Some name
+      → (status : ℕ) → result ≡ Ok status
+      → AsksByRules w e (bounds_by b.strict) keys fault (aad_of b.aad) old new out out' err err'
+      status
+      → Asks w e a keys fault old new out out' err err' result
+
+-- a run with these arguments went through its input: with --keys that of status 0 or 1
+abbrev pub WentThrough : Option AskArguments → ℕ → Type 0
+WentThrough None status = Unit {0}
+WentThrough (Some a) status = MatchOption a.keys (Unit {0}) (λ _. status < 2)

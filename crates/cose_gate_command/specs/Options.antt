@@ -27,7 +27,8 @@ aads_of (Some aad) = aad ∷ []
 abbrev pub asks_after : HeldAsk → List (List ℕ) → Option AskArguments
 asks_after a ws =
     if are_known asks ws
-    then of_aad (a.strict || has (codes "--strict") ws) (a.lines || has (codes "--lines") ws)
+    then of_aad (option_copied a.keys) (a.strict || has (codes "--strict") ws)
+    (a.lines || has (codes "--lines") ws)
     (a.fields || has (codes "--fields") ws)
     (aads_of (option_copied a.aad) ++ filter (λ w. not (is_option w)) ws)
     else None

@@ -1,50 +1,152 @@
 //! The run of `cose-ask`.
-ghost use Rattle.std.specs.Prelude.{◌≡◌, [], OnOk, false, is_ok, map, string_bytes};
+ghost use Rattle.std.specs.Prelude.{◌≡◌, ◌<◌, [], IfOk, OnOk, false, is_ok};
+ghost use Rattle.std.specs.Prelude.{map, option_copied, string_bytes};
+ghost use Rattle.coset_keys.specs.View.{key_set_view};
 ghost use Rattle.cose_gate_command.specs.Arguments as spec;
-ghost use Rattle.cose_gate_command.specs.Asking.{Asks, Asked, or_status, reading};
+ghost use Rattle.cose_gate_command.specs.Asking.{Asks, Asked, AsksByRules, WentThrough};
+ghost use Rattle.cose_gate_command.specs.Asking.{or_status, reading, with_failures};
+ghost use Rattle.cose_gate_command.specs.Ends.{bounds_by};
 ghost use Rattle.cose_gate_command.specs.Waiting.{last_line};
 ghost use Rattle.cose_gate_core.specs.Terms.{limits_of};
+ghost use Rattle.cose_gate_program.specs.Beginning.{aad_of};
+ghost use Rattle.cose_gate_program.specs.Telling.{writes};
 ghost use Rattle.cose_gate_program.specs.Writing.{Wrote, HandedOn};
+ghost use Rattle.cose_ruled.specs.Running.{RanAsking};
 
+use crate::arguments::Arguments;
 use crate::ending::{Ending, end};
+use crate::key_file::KeyFile;
 use crate::not_run::NotRun;
-use crate::options::{Form, RunTerms, ask_arguments, read_aad, run_terms};
+use crate::options::{AskArguments, Form, RunTerms, ask_arguments, read_aad, run_terms};
 use crate::question_writer::{Begun, QuestionWriter};
+use crate::verbose::end_unbegun;
 use ciborium_ll::log::Log;
 use ciborium_ll::{Read, Write};
-use cose_gate_program::{Notice, run_told};
+use cose_gate_program::{CoseKeySet, Notice, begin, run_told};
 use cose_gate_records::Nowhere;
+use cose_ruled::ask_ruled;
 use std::alloc::Global;
 
 /// Runs the gate as these arguments ask, with a judge that says yes to each question, and writes
 /// its record to `out` and hands it on before the next one is asked. The lines go to `err`. The
 /// status is that of the run.
 ///
+/// With `--keys` it asks by the rules under the keys of the file KEYS, and writes a block for each
+/// item (`ask_ruled`). `keys` is what the file holds, or `fault` says why it can't be read. If KEYS
+/// can't be used, lines and status are those of `program`.
+///
 /// # Errors
-/// `Usage`, `NotHex` and `Memory`, before anything is read. `Output` if a record can't be written,
-/// and `Memory` if it was out of memory for one: those before it are written, no later one is asked
-/// for, and the lines have no last one.
-pub fn ask<R: Read, W: Write, E: Write>(
+/// `Usage`, and without `--keys` `NotHex` and `Memory`, before anything is read. `Output` if a record
+/// can't be written, and `Memory` if it was out of memory for one: those before it are written, no
+/// later one is asked for, and the lines have no last one.
+pub fn ask<'a, R: Read, W: Write, E: Write>(
     alloc: Global,
-    words: &[String],
+    words: &'a [String],
+    keys: Option<&'a [u8]>,
+    fault: &'a str,
     input: &mut R,
     out: &mut W,
     err: &mut E,
 ) -> Result<u8, NotRun>
     ensures ran { Asks W.Write E.Write (spec.ask_arguments (map string_bytes words.now))
+        (option_copied keys.entry) fault.now
         (reading R.Read input.old) (reading R.Read input.new)
         out.old out.new err.old err.new result }
     ensures kept { R.handle input.new ≡ R.handle input.old }
     ensures lent { W.handle out.new ≡ W.handle out.old }
-    ensures handed { W.held out.old ≡ [] → OnOk result (W.held out.new ≡ []) }
-    ensures lines { OnOk result (HandedOn E.Write err.old err.new) }
+    ensures handed { W.held out.old ≡ [] → IfOk result (λ status.
+        WentThrough (spec.ask_arguments (map string_bytes words.now)) status
+        → W.held out.new ≡ []) }
+    ensures lines { IfOk result (λ status.
+        WentThrough (spec.ask_arguments (map string_bytes words.now)) status
+        → HandedOn E.Write err.old err.new) }
 {
     let Some(arguments) = ask_arguments(words) else {
         return Err(NotRun::Usage);
     };
+    if let Some(name) = arguments.keys {
+        let file = KeyFile {
+            name,
+            bytes: keys,
+            fault,
+        };
+        return Ok(ask_keys(alloc, arguments, file, input, out, err));
+    }
     let aad = read_aad(alloc, arguments.aad)?;
     let run = run_terms(arguments.strict, aad.as_slice());
     ask_by(alloc, run, arguments.form(), input, out, err)
+}
+
+/// Asks by the rules, under the keys of this file.
+fn ask_keys<R: Read, W: Write, E: Write>(
+    alloc: Global,
+    asked: AskArguments<'_>,
+    file: KeyFile<'_>,
+    input: &mut R,
+    out: &mut W,
+    err: &mut E,
+) -> u8
+    ensures ran { AsksByRules W.Write E.Write (bounds_by asked.entry.strict)
+        (option_copied file.entry.bytes) file.entry.fault.now
+        (aad_of (option_copied asked.entry.aad))
+        (reading R.Read input.old) (reading R.Read input.new)
+        out.old out.new err.old err.new result }
+    ensures kept { R.handle input.new ≡ R.handle input.old }
+    ensures lent { W.handle out.new ≡ W.handle out.old }
+    ensures handed { result < 2 → W.held out.new ≡ [] }
+    ensures lines { result < 2 → HandedOn E.Write err.old err.new }
+{
+    match begin(alloc, file.bytes, asked.aad) {
+        Ok(beginning) => {
+            let run = run_terms(asked.strict, beginning.aad.as_slice());
+            ask_blocks(alloc, run, &beginning.keys, input, out, err)
+        }
+        Err(why) => {
+            let plain = Arguments {
+                strict: asked.strict,
+                verbose: false,
+                quiet: false,
+                keys: file.name,
+                aad: asked.aad,
+            };
+            end_unbegun(alloc, plain, why, file, err)
+        }
+    }
+}
+
+/// Asks by the rules and these terms under these keys, and writes the blocks and the lines.
+fn ask_blocks<R: Read, W: Write, E: Write>(
+    alloc: Global,
+    run: RunTerms<'_>,
+    keys: &CoseKeySet,
+    input: &mut R,
+    out: &mut W,
+    err: &mut E,
+) -> u8
+    ensures ran { RanAsking W.Write (limits_of run.entry.terms) (key_set_view keys.now)
+        run.entry.aad.now
+        (with_failures W.Write out.old (reading R.Read input.old))
+        (with_failures W.Write out.new (reading R.Read input.new)) out.old out.new result
+        (writes E.Write err.old err.new) }
+    ensures kept { R.handle input.new ≡ R.handle input.old }
+    ensures lent { W.handle out.new ≡ W.handle out.old }
+    ensures handed { result < 2 → W.held out.new ≡ [] }
+    ensures lines { HandedOn E.Write err.old err.new }
+{
+    let mut last = None;
+    let mut said = Log::new();
+    let mut ending = Ending::new(err, &mut last, &mut said);
+    let status = ask_ruled(
+        alloc,
+        run.terms,
+        keys.0.as_slice(),
+        run.aad,
+        input,
+        out,
+        &mut ending,
+    );
+    end(true, &last, err);
+    status
 }
 
 /// Asks by these terms, and writes the questions in this form.

@@ -32,7 +32,7 @@ pub use crate::explained::{Explained, Note, Reasons};
 pub use crate::key_file::{KeyFile, say_not_begun, write_reason};
 pub use crate::more::{say_fault, say_keys, say_reason, write_indented, write_more};
 pub use crate::not_run::NotRun;
-pub use crate::options::{PassArguments, pass_arguments};
+pub use crate::options::{AskArguments, PassArguments, ask_arguments, pass_arguments};
 pub use crate::passing::pass;
 pub use crate::starting::{
     Content, asks_for_help, asks_for_version, ended, hand_on_in_blocks, read_in_blocks, words_of,

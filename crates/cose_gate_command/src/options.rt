@@ -19,6 +19,8 @@ use std::alloc::Global;
 /// The arguments of `cose-ask`.
 #[derive(Debug, Clone, Copy, PartialEq, Eq)]
 pub struct AskArguments<'a> {
+    /// The file with the key set, if it asks by the rules.
+    pub keys: Option<&'a str>,
     /// Only messages in canonical encoding pass.
     pub strict: bool,
     /// The questions are written as lines of text.
@@ -86,18 +88,44 @@ impl<'a> AskArguments<'a> {
     }
 }
 
-/// The arguments `[--strict] [--lines] [--fields] [AADHEX]`; `None` if they are others. Options may
-/// be before and after AADHEX.
+/// The arguments `[--strict] [--lines] [--fields] [AADHEX]`, or `--keys KEYS [--strict] [AADHEX]`;
+/// `None` if they are others. `--keys` comes first, other options may be before and after AADHEX.
 pub fn ask_arguments(all: &[String]) -> Option<AskArguments<'_>>
     ensures { option_map ask_view result ≡ spec.ask_arguments (map string_bytes all.now) }
 {
+    if let Some((first, rest)) = all.split_first()
+        && first.as_str() == "--keys"
+    {
+        return with_file(rest);
+    }
+    with_keys(None, all)
+}
+
+/// The arguments after `--keys`: KEYS, and others without a form of questions.
+fn with_file(words: &[String]) -> Option<AskArguments<'_>>
+    ensures { option_map ask_view result ≡ spec.with_file (map string_bytes words.now) }
+{
+    let (keys, rest) = words.split_first()?;
+    let asked = with_keys(Some(keys.as_str()), rest)?;
+    if asked.lines || asked.fields {
+        return None;
+    }
+    Some(asked)
+}
+
+/// The arguments without `--keys`, or those after KEYS.
+fn with_keys<'a>(keys: Option<&'a str>, words: &'a [String]) -> Option<AskArguments<'a>>
+    ensures { option_map ask_view result
+        ≡ spec.with_keys (option_copied keys.entry) (map string_bytes words.now) }
+{
     let mut asked = AskArguments {
+        keys,
         strict: false,
         lines: false,
         fields: false,
         aad: None,
     };
-    for word in all {
+    for word in words {
         if !asked.take(word.as_str()) {
             return None;
         }

@@ -22,7 +22,7 @@ use std::alloc::Global;
 use std::cell::{Cell, RefCell};
 
 /// Ends a run that doesn't begin, and returns its status.
-fn end_unbegun<E: Write>(
+pub(crate) fn end_unbegun<E: Write>(
     alloc: Global,
     asked: Arguments<'_>,
     why: NotBegun,

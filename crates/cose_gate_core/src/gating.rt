@@ -391,7 +391,8 @@ pub struct ItemTerms<'a> {
 }
 
 /// One item more of what `gate_by` does: the counts with it, or `None` if no byte is left. The
-/// contract goes on from what was seen at the first of the items that are counted.
+/// contract goes on from what was seen at the first of the items that are counted, and from the
+/// steps that these were: it was one step more, or the run had exactly these.
 ///
 /// # Errors
 /// Those of `gate_by`.

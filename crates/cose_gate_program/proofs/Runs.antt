@@ -39,40 +39,46 @@ due_none (Some b) = refl
 pub no_title : (l k : Option (List ℕ)) (waiting : Option Header) → k ≡ due l waiting → waiting ≡ None → k ≡ l
 no_title l k waiting is none = is ∙ ap (due l) none ∙ due_none l
 
--- the run of the gate, by the input and the output that it was lent, and by what judge and report
--- were told
-abbrev pub gated : {T S : Type 0} (by : Rules T S) (old new : GateState T S) (n n' f f' : ℕ) (r : Result Counts (GateFault InputFault)) (before after : Devices)
+-- the run of the gate is shown by the input and the output that it was lent
+pub shown : {T S : Type 0} (by : Rules T S) (old new : GateState T S) (n n' f f' : ℕ) (r : Result Counts (GateFault InputFault)) (before after : Devices)
+    → old.offset ≡ 0 → before ≡ devices old.left old.written n f → after ≡ devices new.left new.written n' f'
+    → (a : Ran is_end true by old new r) → n' ≡ n + reader_failures is_end r → f' ≡ f + writer_failures r
+    → Shows by.limits by.allows by.aad before after a.run true
+shown by old new n n' f f' r before after start first last a reads writes =
+    let run = a.run in
+    subst (λ (d : Devices). Shows by.limits by.allows by.aad d after run true) (sym first)
+    (subst (λ (d : Devices). Shows by.limits by.allows by.aad (devices old.left old.written n f) d run true) (sym last)
+    (record {
+      input = a.input;
+      is = a.is;
+      course = subst (λ (k : ℕ). Course by.limits by.allows by.aad k a.input (run.done ++ at_hand run.ending) (taken_at run.ending ++ run.rest)) start a.course;
+      ends = a.ends_at;
+      fault = subst (λ (k : ℕ). FaultAt is_end by.limits k old.left run.rest run.ending) start a.fault;
+      shapes = a.shapes;
+      left = a.left;
+      written = a.written;
+      reads = reads ∙ ap (λ z. n + reader_failures is_end z) a.returned;
+      writes = let e : f' ≡ f + writer_failures (result_of by.allows by.aad run) = writes ∙ ap (λ z. f + writer_failures z) a.returned in omega (arith, e);
+      nothing = λ empty steady.
+          let none : reader_failures is_end r ≡ 0 = omega (arith, reads, steady) in
+          subst (λ (z : Result Counts (GateFault InputFault)). IsOk z) a.returned (nothing is_end true by old new r a empty none (omega (arith, start)));
+    }))
+
+-- and by what judge and report were told
+pub gated : {T S : Type 0} (by : Rules T S) (old new : GateState T S) (n n' f f' : ℕ) (r : Result Counts (GateFault InputFault)) (before after : Devices)
     (Asked : List Question → Type 0) (Told : List Notice → Type 0)
     → old.offset ≡ 0 → before ≡ devices old.left old.written n f → after ≡ devices new.left new.written n' f'
     → Ran is_end true by old new r → n' ≡ n + reader_failures is_end r → f' ≡ f + writer_failures r
     → ((qs : List Question) → new.told ≡ folded_over by.decided old.told qs → Asked qs)
     → ((ss : List Step) → new.state ≡ folded_over by.folded old.state (entries_of ss) → Told (items_of ss))
     → Gated by.limits by.allows by.aad before after r Asked Told
-gated by old new n n' f f' r before after Asked Told start first last a reads writes asked told =
-    let run = a.run in
-    record {
-      run = run;
-      shows = subst (λ (d : Devices). Shows by.limits by.allows by.aad d after run true) (sym first)
-          (subst (λ (d : Devices). Shows by.limits by.allows by.aad (devices old.left old.written n f) d run true) (sym last)
-          (record {
-            input = a.input;
-            is = a.is;
-            course = subst (λ (k : ℕ). Course by.limits by.allows by.aad k a.input (run.done ++ at_hand run.ending) (taken_at run.ending ++ run.rest)) start a.course;
-            ends = a.ends_at;
-            fault = subst (λ (k : ℕ). FaultAt is_end by.limits k old.left run.rest run.ending) start a.fault;
-            shapes = a.shapes;
-            left = a.left;
-            written = a.written;
-            reads = reads ∙ ap (λ z. n + reader_failures is_end z) a.returned;
-            writes = let e : f' ≡ f + writer_failures (result_of by.allows by.aad run) = writes ∙ ap (λ z. f + writer_failures z) a.returned in omega (arith, e);
-            nothing = λ empty steady.
-                let none : reader_failures is_end r ≡ 0 = omega (arith, reads, steady) in
-                subst (λ (z : Result Counts (GateFault InputFault)). IsOk z) a.returned (nothing is_end true by old new r a empty none (omega (arith, start)));
-          }));
-      asked = asked (asked_in by.allows by.aad run) a.asked;
-      told = told run.done a.noted;
-      result_is = a.returned;
-    }
+gated by old new n n' f f' r before after Asked Told start first last a reads writes asked told = record {
+  run = a.run;
+  shows = shown by old new n n' f f' r before after start first last a reads writes;
+  asked = asked (asked_in by.allows by.aad a.run) a.asked;
+  told = told a.run.done a.noted;
+  result_is = a.returned;
+}
 
 -- a flush that failed counts
 once_more : {X F : Type 0} (answer : Result X F) (m k n : ℕ) → m ≡ k + 0 → n ≡ write_failures answer m → n ≡ k + cond (is_ok answer) 0 1

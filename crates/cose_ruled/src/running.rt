@@ -20,6 +20,7 @@ use coset_keys::CoseKey;
 use std::alloc::{AllocError, Global};
 
 /// A report that keeps the last entry, or at first one of no item.
+#[derive(Drop)]
 struct LastEntry {
     entry: Entry,
 }
@@ -80,11 +81,13 @@ fn ask_item<W: Write, T: Teller>(
     let block = asker.block(alloc, entry, end)?;
     let handed = write_block(&block, out);
     teller.tell(&Notice::Item(*entry));
-    if handed.is_err() {
-        return Err(GateFault::Write);
+    match handed {
+        Ok(()) => {
+            teller.rest();
+            Ok(())
+        }
+        Err(_) => Err(GateFault::Write),
     }
-    teller.rest();
-    Ok(())
 }
 
 /// Asks about all items, and tells each.

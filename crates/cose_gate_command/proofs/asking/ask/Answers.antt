@@ -12,8 +12,8 @@ returns-in_default-clause-ran g c = not_run _ (asks_usage _ (sym c.ask_arguments
 pub returns-in_err-aad-clause-ran : goal.returns-in_err-aad-clause-ran
 returns-in_err-aad-clause-ran g c =
     let p = err_from_is_err_and c.from_residual.result c.from_residual.ensures.1 in
-    rw (p.1, p.2) (not_run _ (asks_not _ (ask_view c.in-Some.arguments) _ (sym c.ask_arguments.ensures ∙ ap (option_map ask_view) c.in-Some.is) c.in_err-aad.ensures) refl refl refl refl)
+    rw (p.1, p.2) (not_run _ (asks_not _ (ask_view c.in-Some.arguments) _ (sym c.ask_arguments.ensures ∙ ap (option_map ask_view) c.in-Some.is) ? c.in_err-aad.ensures) refl refl refl refl)
 
 pub returns-clause-ran : goal.returns-clause-ran
-returns-clause-ran g c = after_run (ask_view c.in-Some.arguments) (sym c.ask_arguments.ensures ∙ ap (option_map ask_view) c.in-Some.is) _ c.in_ok-aad.ensures
+returns-clause-ran g c = after_run (ask_view c.in-Some.arguments) (sym c.ask_arguments.ensures ∙ ap (option_map ask_view) c.in-Some.is) ? _ c.in_ok-aad.ensures
     (rw c.as_slice.ensures.value at (rw c.form.ensures at (rw (c.run_terms-run.ensures.terms, c.run_terms-run.ensures.aad) at c.ask_by.ensures.ran)))
