@@ -231,10 +231,10 @@ class Tools(unittest.TestCase):
         others = mac0({1: 6}, {4: b"m"}, name="sha384") + mac0({1: 7}, {4: b"m"}, name="sha512") + mac0({1: 4}, {4: b"w"}, length=8)
         self.passes(good + others, keys=keys)
         self.refused([
-            ("Judged", "64 bits are taken only", mac0({1: 4}, {4: b"m"}, length=8)),
+            ("Judged", "names no algorithm, which tags of 64 bits need", mac0({1: 4}, {4: b"m"}, length=8)),
             ("Judged", "the tag isn't good", mac0({1: 5}, {4: b"m"}, length=8)),
             ("Judged", "the tag isn't good", mac0({1: 5}, {4: b"m"}, length=0)),
-            ("Judged", "it is for HS256/64 alone", mac0({1: 5}, {4: b"w"})),
+            ("Judged", "for another algorithm \\(HS256, .*: oct for HS256/64 in macs", mac0({1: 5}, {4: b"w"})),
         ], good=good, keys=keys)
 
     def test_one_pem_is_for_every_key_id(self):
@@ -265,44 +265,44 @@ class Tools(unittest.TestCase):
 
     def test_wrong_messages(self):
         self.refused([("Judged", *row) for row in (
-            ('no key for 6e6f6e65 \\("none"\\)', sign1({1: -7}, {4: b"none"})),
-            ("no key without a key id", sign1({1: -7}, {})),
-            ("no key for 1b5b316d$", sign1({1: -7}, {4: b"\x1b[1m"})),
-            ("no key for (6b){32}\\.\\.$", sign1({1: -7}, {4: b"k" * 900})),
+            ('no key has its key id \\(ES256, 6e6f6e65 \\("none"\\)\\)$', sign1({1: -7}, {4: b"none"})),
+            ("no key has its key id \\(ES256, no key id\\)$", sign1({1: -7}, {})),
+            ("\\(ES256, 1b5b316d\\)$", sign1({1: -7}, {4: b"\x1b[1m"})),
+            ("\\(ES256, (6b){32}\\.\\.\\)$", sign1({1: -7}, {4: b"k" * 900})),
             ("the signature isn't good", flipped(GOOD)),
             ("the signature isn't good", GOOD.replace(b"hi", b"ho")),
             ("the signature isn't good", sign1({1: -7}, KID, aad=b"\1")),
             ("the signature isn't good", sign1({1: -7}, {4: b"11"})),
             ("the signature isn't good", sign1({1: -7}, KID, sign=lambda covered: bytes(64))),
             ("the signature isn't good", sign1({1: -7}, KID, sign=lambda covered: b"\xff" * 64)),
-            ("it is EC P-384, and ES256 takes EC P-256", sign1({1: -7}, {4: b"p384"}, sign=ecdsa(P384, hashes.SHA256()))),
-            ("it is EC P-256, and ES384 takes EC P-384", sign1({1: -35}, KID, sign=ecdsa(P256, hashes.SHA384()))),
-            ("it is EC secp256k1, and ES256 takes EC P-256", sign1({1: -7}, {4: b"k1"}, sign=ecdsa(K1, hashes.SHA256()))),
-            ("it is OKP Ed448, and Ed25519 takes OKP Ed25519", sign1({1: -19}, {4: b"ed448"}, sign=ED448.sign)),
-            ("it is OKP Ed25519, and ES256 takes EC P-256", sign1({1: -7}, {4: b"ed"}, sign=ED.sign)),
-            ("it has 1024 bits", sign1({1: -37}, {4: b"short"}, sign=pss(SHORT, hashes.SHA256()))),
+            ('on another curve \\(ES256, 70333834 \\("p384"\\): EC P-384 in p384.pem\\)$', sign1({1: -7}, {4: b"p384"}, sign=ecdsa(P384, hashes.SHA256()))),
+            ("on another curve \\(ES384, .*: EC P-256 in dev1.pem", sign1({1: -35}, KID, sign=ecdsa(P256, hashes.SHA384()))),
+            ("on another curve \\(ES256, .*: EC secp256k1 in k1.pem", sign1({1: -7}, {4: b"k1"}, sign=ecdsa(K1, hashes.SHA256()))),
+            ("on another curve \\(Ed25519, .*: OKP Ed448 in ed448.pem", sign1({1: -19}, {4: b"ed448"}, sign=ED448.sign)),
+            ("of another type \\(ES256, .*: OKP Ed25519 in hex:6564.pem", sign1({1: -7}, {4: b"ed"}, sign=ED.sign)),
+            ("fewer than 2,048 bits \\(PS256, .*: RSA in short.pem", sign1({1: -37}, {4: b"short"}, sign=pss(SHORT, hashes.SHA256()))),
             ("the signature isn't good", sign1({1: -37}, {4: b"rsa"}, sign=pkcs(RSA, hashes.SHA256()))),
             ("has (6\\d|7[0-2]) bytes, it looks like DER", sign1({1: -7}, KID, sign=ecdsa(P256, hashes.SHA256(), der=True))),
             ("has 63 bytes.*; ES256 has r and s in 32", sign1({1: -7}, KID, sign=lambda covered: ES256(covered)[:63])),
             ("has 0 bytes", sign1({1: -7}, KID, sign=lambda covered: b"")),
             ("has 66 bytes", sign1({1: -7}, KID, sign=ecdsa(P256, hashes.SHA256(), other_size=33))),
             ("the signature isn't good", sign1({1: -8}, {4: b"ed"}, sign=lambda covered: ED.sign(covered)[:63])),
-            ("the protected header names no algorithm, nor does", sign1({}, KID)),
-            ("the protected header names no algorithm, only the unprotected", sign1({}, {1: -7, 4: b"dev1"})),
-            ("the label 1 is in both headers", sign1({1: -7}, {1: -8, 4: b"dev1"})),
-            ("the label 4 is in both headers", sign1({1: -7, 4: b"dev1"}, {4: b"11"})),
-            ("critical: the label 'room'", sign1({1: -7, 2: ["room"], "room": 7}, KID)),
-            ("critical: the label 3,", sign1({1: -7, 2: [3], 3: 0}, KID)),
-            ("crit names the label 4, which isn't in the protected", sign1({1: -7, 2: [4]}, KID)),
-            ("crit is in the unprotected header", sign1({1: -7}, {2: [1], 4: b"dev1"})),
-            ("HS256 isn't known here for a COSE_Sign1", sign1({1: 5}, KID)),
-            ("the algorithm -65535 isn't known", sign1({1: -65535}, KID)),
-            ("ES256 isn't known here for a COSE_Mac0", mac0({1: -7}, KID)),
-            ("it is EC P-256, and HS256 takes oct", mac0({1: 5}, KID, secret=pem(P256))),
-            ("a COSE_Mac: its key", tag(97, [cbor2.dumps({1: 5}), {}, b"hi", bytes(32), [[b"", {1: -6, 4: b"dev1"}, b""]]])),
-            ("a COSE_Mac: its key", tag(97, [h("a10126"), KID, b"hi", ES256(cbor2.dumps(["MAC", h("a10126"), b"", b"hi"])), [[b"", {}, b""]]])),
-            ("critical: the label 'room'", signed([({1: -7}, KID, ES256)], body=cbor2.dumps({2: ["room"], "room": 1}))),
-            ("critical: the label 'room'", signed([({1: -7, 2: ["room"], "room": 1}, KID, ES256)])),
+            ("the protected header names no algorithm \\(no algorithm, ", sign1({}, KID)),
+            ("the protected header names no algorithm \\(no algorithm, ", sign1({}, {1: -7, 4: b"dev1"})),
+            ("a label is in both headers", sign1({1: -7}, {1: -8, 4: b"dev1"})),
+            ("a label is in both headers", sign1({1: -7, 4: b"dev1"}, {4: b"11"})),
+            ("a critical label is not understood", sign1({1: -7, 2: ["room"], "room": 7}, KID)),
+            ("a critical label is not understood", sign1({1: -7, 2: [3], 3: 0}, KID)),
+            ("a critical label is not in the protected header", sign1({1: -7, 2: [4]}, KID)),
+            ("the unprotected header has critical labels", sign1({1: -7}, {2: [1], 4: b"dev1"})),
+            ("not known for such messages \\(HS256, ", sign1({1: 5}, KID)),
+            ("not known for such messages \\(the algorithm -65535, ", sign1({1: -65535}, KID)),
+            ("not known for such messages \\(ES256, ", mac0({1: -7}, KID)),
+            ("of another type \\(HS256, .*: EC P-256 in dev1.pem", mac0({1: 5}, KID, secret=pem(P256))),
+            ("its key is that of its recipients", tag(97, [cbor2.dumps({1: 5}), {}, b"hi", bytes(32), [[b"", {1: -6, 4: b"dev1"}, b""]]])),
+            ("its key is that of its recipients", tag(97, [h("a10126"), KID, b"hi", ES256(cbor2.dumps(["MAC", h("a10126"), b"", b"hi"])), [[b"", {}, b""]]])),
+            ("a critical label is not understood", signed([({1: -7}, KID, ES256)], body=cbor2.dumps({2: ["room"], "room": 1}))),
+            ("of a signer: a critical label is not understood", signed([({1: -7, 2: ["room"], "room": 1}, KID, ES256)])),
         )])
 
     def test_malformed_messages(self):
@@ -392,7 +392,8 @@ class Tools(unittest.TestCase):
         some = self.put("some", cbor2.dumps([{1: 99}, to_cose(P256, b"dev1")]))
         self.assertIn("some: key 1: the kty 99", self.verify(GOOD, keys=some, status=0)[1])
         limited = self.put("limited", cbor2.dumps([{**to_cose(P256, b"dev1"), 4: [1]}, {**to_cose(P256, b"dev1"), 3: -9}]))
-        self.assertRegex(self.verify(GOOD, keys=limited, status=1)[1], "its operations don't have this one; .*it is for ESP256 alone")
+        self.assertRegex(self.verify(GOOD, keys=limited, status=1)[1], 
+                         "for other operations \\(ES256, .*: EC P-256 in limited, EC P-256 for ESP256 in limited")
         self.assertEqual(self.verify(b"", status=0)[1], "passed 0, refused 0\n")
 
     def test_one_message(self):
@@ -451,7 +452,7 @@ class Tools(unittest.TestCase):
         many = self.many_signatures(20_000, 5000)
         peak, out, told, status = peak_of("--keys", self.keys, data=GOOD + many + GOOD + many + many + GOOD)
         self.assertEqual((out, status), (GOOD * 3, 1), told)
-        self.assertIn("\n  signature 1 of 5000: the protected header names no algorithm", told)
+        self.assertIn("\n  the protected header names no algorithm", told)
         self.assertLess(peak, 100)
         peak, out, told, status = peak_of("--keys", self.keys, data=GOOD + bytes(200_000) + GOOD)
         self.assertEqual((out, status), (GOOD * 2, 1))
@@ -483,7 +484,7 @@ class Tools(unittest.TestCase):
         small = self.many_signatures(1, 1)
         done = subprocess.run([VERIFY, "--keys", self.keys], input=GOOD + small * 300 + GOOD, capture_output=True, env=environment)
         self.assertEqual((done.stdout, done.returncode, os.path.getsize(runs)), (GOOD * 2, 1, 1))
-        environment, runs = self.counted("cose-gate")
+        environment, runs = self.counted("cose-ask")
         process = subprocess.Popen([VERIFY, "--keys", self.keys], stdin=subprocess.PIPE, stdout=subprocess.PIPE, stderr=subprocess.DEVNULL,
                                    env=environment)
         message = sign1({1: -7}, KID, payload=bytes(5000))
