@@ -37,7 +37,7 @@ no_aad b bytes (unrun.LineNoRecord n) h = absurd h
 no_aad b bytes unrun.Output h = absurd h
 
 -- a line isn't AADHEX
-IsOfAad : NotRun → Type 0
+abbrev IsOfAad : NotRun → Type 0
 IsOfAad unrun.NotHex = Unit {0}
 IsOfAad why = ⊥
 
