@@ -9,12 +9,12 @@ def framed(piece):
     return len(piece).to_bytes(8, "little") + piece
 
 
-def split(text):
-    """The pieces of a text, each after its length in eight bytes."""
-    while text:
-        size = 8 + int.from_bytes(text[:8], "little")
-        yield text[8:size]
-        text = text[size:]
+def split(data):
+    """The pieces, each after its length in eight bytes."""
+    while data:
+        size = 8 + int.from_bytes(data[:8], "little")
+        yield data[8:size]
+        data = data[size:]
 
 
 for key in split(sys.stdin.buffer.read()):

@@ -44,9 +44,8 @@ def statuses():
          found("examples/python/cose_gate.py", r"^    status = (\d)$"))
     same("the statuses are", ["0 | 1", "2", "3", "5", "_"], "examples/rust/src/main.rs",
          re.findall(r"^        (\S.*?) => \w+\(", re.search(r"match answer\.status \{.*?\n    \}", text("examples/rust/src/main.rs"), re.S)[0], re.M))
-    for name in ["gate", "pass"]:
+    for name in ["gate", "ask", "pass"]:
         same("the statuses are", ["0", "1", "2", "3", "4"], f"docs/cose-{name}.1", found(f"docs/cose-{name}.1", r"^\.B (\d)$"))
-    same("the statuses are", ["0", "1", "2", "4"], "docs/cose-ask.1", found("docs/cose-ask.1", r"^\.B (\d)$"))
 
 
 def faults():
