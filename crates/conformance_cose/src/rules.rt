@@ -74,12 +74,19 @@ fn candidates(to: &mut Out, keys: &[CoseKey], scheme: Scheme, id: &[u8]) {
 /// Whether these claims let a token pass: the seconds that it may be at the earliest and at the
 /// latest, and `-` or what else is asked, as `iss=me,aud=you,need=4`.
 pub fn of_claims(to: &mut Out, [earliest, latest, asked, claims]: [&str; 4]) {
-    let needed = needed(to, asked);
+    let mut needed = Vec::new(to.alloc());
+    let mut terms = Asked {
+        issuer: None,
+        audience: Audience::Nobody,
+    };
+    for word in asked.split(',') {
+        terms = terms.with(to, &mut needed, word);
+    }
     let terms = TokenTerms {
         earliest: to.number(earliest),
         latest: to.number(latest),
-        issuer: named(asked, "iss"),
-        audience: audience(asked),
+        issuer: terms.issuer,
+        audience: terms.audience,
         needed: &needed,
     };
     if let Some(claims) = read::<Value>(to, claims) {
@@ -100,40 +107,43 @@ fn decided(to: &mut Out, terms: TokenTerms<'_>, claims: Value) {
     }
 }
 
-/// The name that is asked for of this claim.
-fn named<'a>(asked: &'a str, claim: &str) -> Option<&'a str> {
-    for word in asked.split(',') {
+/// Who has to have issued a token, and whom it is for.
+#[derive(Clone, Copy)]
+struct Asked<'a> {
+    issuer: Option<&'a str>,
+    audience: Audience<'a>,
+}
+
+impl<'a> Asked<'a> {
+    /// And what this word asks.
+    fn with(self, to: &mut Out, needed: &mut Vec<Label>, word: &'a str) -> Asked<'a> {
         match word.split_once('=') {
-            Some((first, name)) if first == claim => return Some(name),
-            _ => {}
+            Some(("iss", name)) => Asked {
+                issuer: Some(name),
+                ..self
+            },
+            Some(("aud", name)) => Asked {
+                audience: Audience::Named(name),
+                ..self
+            },
+            Some(("need", label)) => {
+                need(to, needed, label);
+                self
+            }
+            Some(_) => {
+                to.refuse(NoAnswer::NoArgument);
+                self
+            }
+            None if word == "any-aud" => Asked {
+                audience: Audience::Anyone,
+                ..self
+            },
+            None => self,
         }
     }
-    None
 }
 
-fn audience(asked: &str) -> Audience<'_> {
-    match named(asked, "aud") {
-        Some(name) => Audience::Named(name),
-        None if asked == "any-aud" => Audience::Anyone,
-        None => Audience::Nobody,
-    }
-}
-
-/// The claims that have to be there. It looks at the other words too.
-fn needed(to: &mut Out, asked: &str) -> Vec<Label> {
-    let mut needed = Vec::new(to.alloc());
-    for word in asked.split(',') {
-        match word.split_once('=') {
-            Some(("need", label)) => need(to, &mut needed, label),
-            Some(("iss" | "aud", _)) => {}
-            None if word == "-" || word == "any-aud" => {}
-            _ => to.refuse(NoAnswer::NoArgument),
-        }
-    }
-    needed
-}
-
-/// One more, by its number or its name.
+/// One more claim that has to be there, by its number or its name.
 fn need(to: &mut Out, needed: &mut Vec<Label>, label: &str) {
     let label = match label.parse::<i64>() {
         Ok(number) => Ok(Label::Int(number)),
