@@ -1,1 +1,5 @@
-mod Decided
+pub mod Asks
+pub mod Decided
+pub mod Keeping
+pub mod Placed
+pub mod Shared
