@@ -15,7 +15,7 @@ use Rattle.cose_gate_core.specs.declared.report.Entry.{Entry}
 use Rattle.cose_gate_records.specs.Digests.{digest_by}
 use Rattle.cose_gate_records.specs.Framing.{framed}
 use Rattle.cose_gate_records.specs.Records.{front_of}
-use Rattle.cose_ruled.specs.Blocks.{Part, Asked, is_ask, by_ruling, about_of, part_by, part_of, block_by}
+use Rattle.cose_ruled.specs.Blocks.{Part, Asked, Item, is_ask, by_ruling, about_of, part_by, part_of, block_by}
 use Rattle.cose_ruled.specs.Told.{about_in, parts_in}
 use Rattle.cose_ruled.specs.declared.told.Told.{Told}
 
@@ -45,14 +45,24 @@ told_on keys before old now p q is same =
     (ap (λ (z : List Part). before ++ z) is ∙ (sym (append_assoc before old (p ∷ [])) ∙ ap (λ (z : Part). (before ++ old) ++ z ∷ []) same))
 
 -- the next item begins behind all that was told
-pub begun_behind : (before before' : List (Log Told)) (log : Log Told) (old : List Part) → before' ≡ before ++ log ∷ [] → parts_in log ≡ old
-    → flat_map parts_in before' ≡ flat_map parts_in before ++ old
+begun_behind : (before before' : List (Log Told)) (log : Log Told) (old : List Part) → before' ≡ before ++ log ∷ []
+    → parts_in log ≡ old → flat_map parts_in before' ≡ flat_map parts_in before ++ old
 begun_behind before before' log old e is =
     ap (λ (z : List (Log Told)). flat_map parts_in z) e
     ∙ (flat_map-append parts_in before (log ∷ []) ∙ ap (λ (z : List Part). flat_map parts_in before ++ z) (append-nil (parts_in log) ∙ is))
 
-pub begun_with : (all now : List Part) → now ≡ [] → all ++ now ≡ all
-begun_with all now none = ap (λ (z : List Part). all ++ z) none ∙ append-nil all
+pub told_stays : (keys : List KeyFields) (before before' : List (Log Told)) (log : Log Told) (old now : List Part) → before' ≡ before ++ log ∷ []
+    → parts_in log ≡ old → now ≡ []
+    → ◌≡◌ {A = Asked} (record { keys = keys; told = flat_map parts_in before' ++ now }) (record { keys = keys; told = flat_map parts_in before ++ old })
+told_stays keys before before' log old now e is none =
+    ap (λ (z : List Part). record { keys = keys; told = z })
+    (ap (λ (z : List Part). flat_map parts_in before' ++ z) none ∙ (append-nil (flat_map parts_in before') ∙ begun_behind before before' log old e is))
+
+pub item_begins : (keys : List KeyFields) (before before' : List (Log Told)) (log : Log Told) (old : List Part) → before' ≡ before ++ log ∷ []
+    → parts_in log ≡ old
+    → ◌≡◌ {A = Item} (record { keys = keys; before = flat_map parts_in before' }) (record { keys = keys; before = flat_map parts_in before ++ old })
+item_begins keys before before' log old e is =
+    ap (λ (z : List Part). record { keys = keys; before = z }) (begun_behind before before' log old e is)
 
 -- the block of what was told since
 pub block_since : (entry : Entry) (end : ℕ) (before now ps : List Part) (block : List ℕ) → block ≡ block_by entry end now

@@ -4,6 +4,8 @@ use Rattle.std.specs.Global.{Vec}
 use Rattle.std.specs.Option.{unwrap_or}
 use Rattle.std.proofs.lemmas.List.{append-nil, map-append}
 use Rattle.std.proofs.lemmas.Grind.{flat_map-append}
+use Rattle.std.proofs.lemmas.List.Folds.{flat_map-map}
+use Rattle.cose_gate_records.specs.Framing.{framed}
 use Rattle.cose_ruled.specs.Blocks.{Part, covered_in, first_covered, base_of, question_text, why_text}
 use Rattle.cose_ruled.specs.Told.{AreKept, part_in}
 use Rattle.cose_ruled.specs.declared.told.Told.{Told}
@@ -60,12 +62,17 @@ kept_more base why why' texts texts' told told' p t b v held first whys text tex
     (subst (λ (ts : List (List ℕ)). AreKept (Some b) why' ts (map part_in told ++ p ∷ [])) (sym (texts_more texts texts' v (question_text b p) texts_are text))
     (subst (λ (w : List ℕ). AreKept (Some b) w (items_in texts ++ question_text b p ∷ []) (map part_in told ++ p ∷ [])) (sym whys) all))
 
--- texts one after another, in any grouping
-pub four : (a b c d : List ℕ) → ((a ++ b) ++ c) ++ d ≡ a ++ (b ++ (c ++ d))
-four a b c d = simp append_assoc
+-- the texts of all questions, one after another
+texts_joined : (texts : List (Vec ℕ)) (text : Part → List ℕ) (ps : List Part) → items_in texts ≡ map text ps → flat_map (λ v. v.items) texts ≡ flat_map text ps
+texts_joined texts text ps e =
+    sym (flat_map-map (λ (z : List ℕ). z) (λ (v : Vec ℕ). v.items) texts)
+    ∙ (ap (λ (z : List (List ℕ)). flat_map (λ (x : List ℕ). x) z) e ∙ flat_map-map (λ (z : List ℕ). z) text ps)
 
-pub five : (o a b c : List ℕ) → ((o ++ a) ++ b) ++ c ≡ o ++ (a ++ (b ++ c))
-five o a b c = simp append_assoc
-
-pub seven : (a b c d e f g : List ℕ) → (((((a ++ b) ++ c) ++ d) ++ e) ++ f) ++ g ≡ a ++ (b ++ (c ++ (d ++ (e ++ (f ++ g)))))
-seven a b c d e f g = simp append_assoc
+pub body_is : (old base mid : List ℕ) (texts lent : List (Vec ℕ)) (ps : List Part) → items_in texts ≡ map (question_text (base_of ps)) ps
+    → base ≡ base_of ps → mid ≡ old ++ framed base → lent ≡ texts
+    → mid ++ flat_map (λ v. v.items) lent ≡ old ++ (framed (base_of ps) ++ flat_map (question_text (base_of ps)) ps)
+body_is old base mid texts lent ps kept b m same =
+    let all : List ℕ = flat_map (λ v. v.items) texts in
+    ap (λ (z : List (Vec ℕ)). mid ++ flat_map (λ v. v.items) z) same ∙ (ap (λ (z : List ℕ). z ++ all) m ∙ (append_assoc old (framed base) all
+    ∙ (ap (λ (z : List ℕ). old ++ (framed z ++ all)) b
+    ∙ ap (λ (z : List ℕ). old ++ (framed (base_of ps) ++ z)) (texts_joined texts (question_text (base_of ps)) ps kept))))
