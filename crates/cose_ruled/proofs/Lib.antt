@@ -1,2 +1,6 @@
-mod Decided
+pub mod Asks
+pub mod Decided
+pub mod Keeping
+pub mod Placed
 mod Running
+pub mod Shared
