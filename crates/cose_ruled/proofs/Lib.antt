@@ -1,7 +1,6 @@
-mod Decided
-mod Running
 pub mod Asks
 pub mod Decided
 pub mod Keeping
 pub mod Placed
+mod Running
 pub mod Shared
