@@ -17,4 +17,4 @@ pub returns : goal.returns
 returns c =
     let id = c.args.id.now in
     ap (λ z. option_map key_view z) (c.first_that_fits.ensures ∙ ap (λ (ks : List CoseKey). find (λ k. fits id (key_view k)) ks) c.deref.ensures.value)
-    ∙ sym (find_map key_view (fits id) c.args.keys.now.items)
+    ∙ sym (find_map key_view (fits id) c.args.keys.now.0.items)
