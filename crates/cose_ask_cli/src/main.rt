@@ -3,10 +3,9 @@
 //! is the external data in hex.
 #![tactic(auto)]
 
-use ciborium_ll::Io;
 use cose_gate_command::{
-    NotRun, ask, asks_for_help, asks_for_version, ended, hand_on_in_blocks, read_in_blocks,
-    words_of, write_help, write_in_blocks,
+    NotRun, ask, asks_for_help, asks_for_version, ended, read_in_blocks, words_of, write_help,
+    write_in_blocks,
 };
 use cose_gate_program::{Blocks, has_stack};
 use std::env;
@@ -62,16 +61,13 @@ fn start(rt: &HostRuntime) -> Result<u8, NotRun> {
 fn run(rt: &HostRuntime, words: &[String]) -> Result<u8, NotRun> {
     let alloc = rt.alloc();
     let input = read_in_blocks(alloc, rt.stdin())?;
-    let mut output = hand_on_in_blocks(alloc, rt.stdout())?;
+    let mut output = write_in_blocks(alloc, rt.stdout())?;
     let mut lines = write_in_blocks(alloc, rt.stderr())?;
-    let end = ask(
+    ask(
         alloc,
         words,
         &mut Blocks::new(input),
         &mut output,
-        &mut Io::new(&mut lines),
-    );
-    // What a flush that failed has left isn't written as the program ends.
-    let _ = lines.into_parts();
-    end
+        &mut lines,
+    )
 }

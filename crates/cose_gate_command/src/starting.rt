@@ -5,7 +5,7 @@ ghost use Rattle.cose_gate_program.specs.OutOfBlocks.{out_blocks_held};
 use crate::not_run::NotRun;
 use cose_gate_program::OutBlocks;
 use std::alloc::Global;
-use std::io::{BufReader, BufWriter};
+use std::io::BufReader;
 use std::{env, io};
 
 /// Bytes are read and written in blocks of this length, and lines too.
@@ -58,25 +58,11 @@ pub fn read_in_blocks<R: io::Read + Drop>(
     }
 }
 
-/// A writer in blocks.
+/// A writer in blocks, which tells what it holds back.
 ///
 /// # Errors
 /// `Memory`.
 pub fn write_in_blocks<W: io::Write + Drop>(
-    alloc: Global,
-    writer: W,
-) -> Result<BufWriter<W>, NotRun> {
-    match BufWriter::with_capacity(alloc, BLOCK, writer) {
-        Ok(writer) => Ok(writer),
-        Err(_) => Err(NotRun::Memory),
-    }
-}
-
-/// A writer in blocks that tells what it holds back.
-///
-/// # Errors
-/// `Memory`.
-pub fn hand_on_in_blocks<W: io::Write + Drop>(
     alloc: Global,
     writer: W,
 ) -> Result<OutBlocks<W>, NotRun>

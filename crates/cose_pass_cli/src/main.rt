@@ -3,10 +3,9 @@
 //! the accepted records, AADHEX the external data in hex.
 #![tactic(auto)]
 
-use ciborium_ll::Io;
 use cose_gate_command::{
-    Content, NotRun, asks_for_help, asks_for_version, ended, hand_on_in_blocks, pass,
-    pass_arguments, read_in_blocks, words_of, write_help, write_in_blocks,
+    Content, NotRun, asks_for_help, asks_for_version, ended, pass, pass_arguments, read_in_blocks,
+    words_of, write_help, write_in_blocks,
 };
 use cose_gate_program::{Blocks, has_stack};
 use std::process::ExitCode;
@@ -71,17 +70,14 @@ fn read_accepted(rt: &HostRuntime, words: &[String]) -> Result<Content, NotRun> 
 fn run(rt: &HostRuntime, words: &[String], accepted: Content) -> Result<u8, NotRun> {
     let alloc = rt.alloc();
     let input = read_in_blocks(alloc, rt.stdin())?;
-    let mut output = hand_on_in_blocks(alloc, rt.stdout())?;
+    let mut output = write_in_blocks(alloc, rt.stdout())?;
     let mut lines = write_in_blocks(alloc, rt.stderr())?;
-    let end = pass(
+    pass(
         alloc,
         words,
         accepted.bytes,
         &mut Blocks::new(input),
         &mut output,
-        &mut Io::new(&mut lines),
-    );
-    // What a flush that failed has left isn't written as the program ends.
-    let _ = lines.into_parts();
-    end
+        &mut lines,
+    )
 }

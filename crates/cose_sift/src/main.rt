@@ -13,10 +13,10 @@ mod untagging;
 mod walk;
 
 use crate::sifting::{Options, sift_told};
-use ciborium_ll::{Decoder, Io};
+use ciborium_ll::Decoder;
 use cose_gate_command::{
-    NotRun, asks_for_help, asks_for_version, ended, hand_on_in_blocks, read_in_blocks, words_of,
-    write_help, write_in_blocks,
+    NotRun, asks_for_help, asks_for_version, ended, read_in_blocks, words_of, write_help,
+    write_in_blocks,
 };
 use cose_gate_program::{Blocks, has_stack};
 use std::env;
@@ -90,12 +90,8 @@ fn options_of(words: &[String]) -> Option<Options> {
 fn run(rt: &HostRuntime, options: Options) -> Result<u8, NotRun> {
     let alloc = rt.alloc();
     let input = read_in_blocks(alloc, rt.stdin())?;
-    let mut out = hand_on_in_blocks(alloc, rt.stdout())?;
+    let mut out = write_in_blocks(alloc, rt.stdout())?;
     let mut lines = write_in_blocks(alloc, rt.stderr())?;
     let mut decoder = Decoder::from(Blocks::new(input));
-    let mut told = Io::new(&mut lines);
-    let status = sift_told(alloc, options, &mut decoder, &mut out, &mut told);
-    // What a flush that failed has left isn't written as the program ends.
-    let _ = lines.into_parts();
-    Ok(status)
+    Ok(sift_told(alloc, options, &mut decoder, &mut out, &mut lines))
 }
