@@ -5,7 +5,8 @@ ghost use Rattle.cose_gate_program.specs.Lines as spec;
 ghost use Rattle.cose_gate_program.specs.Lines.{line_of};
 ghost use Rattle.ciborium_ll.specs.declared.log.Log.{Log};
 ghost use Rattle.cose_gate_program.specs.Writing.{Wrote, WroteLines, WroteLines-prop};
-ghost use Rattle.cose_gate_program.specs.Writing.{LentLines, HandedOn, HandedSince, HandedSince-prop};
+ghost use Rattle.cose_gate_program.specs.Writing.{LentLines, HandedOn};
+ghost use Rattle.cose_gate_program.specs.Writing.{HandedSince, HandedSince-prop};
 ghost use Rattle.cose_gate_program.specs.Writing.{is_last as spec_last};
 
 use crate::beginning::NotBegun;
