@@ -3,11 +3,11 @@
 //! is the external data in hex.
 #![tactic(auto)]
 
+use ciborium_ll::Io;
 use cose_gate_command::{
-    NotRun, ask, asks_for_help, asks_for_version, ended, read_in_blocks, words_of, write_help,
-    write_in_blocks,
+    NotRun, ask, ended, page_for, read_in_blocks, words_of, write_in_blocks, write_page,
 };
-use cose_gate_program::{Blocks, has_stack};
+use cose_gate_program::Blocks;
 use std::env;
 use std::process::ExitCode;
 
@@ -39,20 +39,14 @@ hex. 4: the input is not CBOR, input or output failed, or out of memory.
 ";
 
 fn main(rt: HostRuntime) -> ExitCode {
-    ExitCode::from(ended(start(&rt), USAGE, &mut rt.stderr()))
+    ExitCode::from(ended(start(&rt), USAGE, &mut Io::new(rt.stderr())))
 }
 
 /// Runs the program, and returns its status.
 fn start(rt: &HostRuntime) -> Result<u8, NotRun> {
     let words = words_of(rt.alloc(), env::args(rt))?;
-    if !has_stack(words.len()) {
-        return Err(NotRun::Memory);
-    }
-    if asks_for_help(words.as_slice()) {
-        return write_help(HELP, &mut rt.stdout());
-    }
-    if asks_for_version(words.as_slice()) {
-        return write_help(VERSION, &mut rt.stdout());
+    if let Some(page) = page_for(words.as_slice(), HELP, VERSION) {
+        return write_page(page, &mut Io::new(rt.stdout()));
     }
     run(rt, words.as_slice())
 }

@@ -3,19 +3,20 @@
 //! output. AADHEX is the external data in hex. With `--strict` only messages in canonical encoding
 //! pass; with `--verbose` standard error says more, with `--quiet` nothing of what passed.
 //!
-//! `cose-gate --stream [--payload FILE] [--verbose] KEYS [AADHEX]`: checks that standard input is one such
-//! message, as it comes, and puts its payload into FILE if its tag is good.
+//! `cose-gate --stream [--payload FILE] [--verbose] KEYS [AADHEX]`: checks that standard input is
+//! one such message, as it comes, and puts its payload into FILE if its tag is good.
 #![tactic(auto)]
 
 mod folder;
 mod streaming;
 
 use crate::streaming::start_stream;
+use ciborium_ll::Io;
 use cose_gate_command::{
-    Content, NotRun, USAGE, asks_for_help, asks_for_version, ended, program, read_arguments,
-    read_in_blocks, words_of, write_help, write_in_blocks,
+    Content, NotRun, USAGE, ended, page_for, program, read_arguments, read_in_blocks, words_of,
+    write_in_blocks, write_page,
 };
-use cose_gate_program::{Blocks, has_stack};
+use cose_gate_program::Blocks;
 use std::process::ExitCode;
 use std::{env, fs};
 
@@ -42,20 +43,14 @@ it is out of memory.
 ";
 
 fn main(rt: HostRuntime) -> ExitCode {
-    ExitCode::from(ended(start(&rt), USAGE, &mut rt.stderr()))
+    ExitCode::from(ended(start(&rt), USAGE, &mut Io::new(rt.stderr())))
 }
 
 /// Runs the program, and returns its status.
 fn start(rt: &HostRuntime) -> Result<u8, NotRun> {
     let words = words_of(rt.alloc(), env::args(rt))?;
-    if !has_stack(words.len()) {
-        return Err(NotRun::Memory);
-    }
-    if asks_for_help(words.as_slice()) {
-        return write_help(HELP, &mut rt.stdout());
-    }
-    if asks_for_version(words.as_slice()) {
-        return write_help(VERSION, &mut rt.stdout());
+    if let Some(page) = page_for(words.as_slice(), HELP, VERSION) {
+        return write_page(page, &mut Io::new(rt.stdout()));
     }
     match words.as_slice() {
         [first, rest @ ..] if first.as_str() == "--stream" => start_stream(rt, rest),

@@ -14,7 +14,7 @@ use std::fs;
 pub fn start_stream(rt: &HostRuntime, words: &[String]) -> Result<u8, NotRun> {
     match stream_arguments(words) {
         Some(asked) => check(rt, asked),
-        None => Ok(ended(Err(NotRun::Usage), STREAM_USAGE, &mut rt.stderr())),
+        None => Ok(ended(Err(NotRun::Usage), STREAM_USAGE, &mut Io::new(rt.stderr()))),
     }
 }
 

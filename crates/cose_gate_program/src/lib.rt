@@ -29,7 +29,7 @@ pub use crate::blocks::Blocks;
 pub use crate::devices::{InputFault, OutputFault};
 pub use crate::judge::HmacJudge;
 pub use crate::keys::{find_key, fits, secret_of};
-pub use crate::lines::{hand_on, write_logged, write_notice};
+pub use crate::lines::{hand_on, write_logged, write_notice, write_number};
 pub use crate::messages::{alg_is_hmac, crit_is_known, message_id};
 pub use crate::out_blocks::OutBlocks;
 pub use crate::program::{run, run_judged, run_over, run_over_told, run_told, run_with};

@@ -204,7 +204,8 @@ fn write_cose_error<W: Write>(error: CoseError, out: &mut W)
     }
 }
 
-fn write_number<W: Write>(number: usize, out: &mut W)
+/// Writes a number.
+pub fn write_number<W: Write>(number: usize, out: &mut W)
     ensures { Wrote W.Write out.old out.new (decimal number) }
 {
     let mut digits = [0; DIGITS];
