@@ -3,31 +3,22 @@
 //! output. AADHEX is the external data in hex. With `--strict` only messages in canonical encoding
 //! pass; with `--verbose` standard error says more, with `--quiet` nothing of what passed.
 //!
-//! `cose-gate --stream [--payload FILE] [--verbose] KEYS [AADHEX]`: checks that standard input is one such
-//! message, as it comes, and puts its payload into FILE if its tag is good.
+//! `cose-gate --stream [--payload FILE] [--verbose] KEYS [AADHEX]`: checks that standard input is
+//! one such message, as it comes, and puts its payload into FILE if its tag is good.
 #![tactic(auto)]
-
-ghost use Rattle.std.specs.Prelude.{map, option_copied, string_bytes};
-ghost use Rattle.cose_gate_command.specs.Arguments as spec;
-ghost use Rattle.cose_gate_command.specs.Ends.{EndsBy};
-ghost use Rattle.cose_gate_program.specs.Program.{devices_of};
 
 mod folder;
 mod streaming;
 
 use crate::streaming::start_stream;
-use ciborium_ll::{Read, Write};
+use ciborium_ll::Io;
 use cose_gate_command::{
-    Content, NotRun, USAGE, asks_for_help, asks_for_version, ended, program, read_arguments,
-    read_in_blocks, words_of, write_help, write_in_blocks,
+    Content, NotRun, USAGE, ended, page_for, program, read_arguments, read_in_blocks, words_of,
+    write_in_blocks, write_page,
 };
-use cose_gate_program::{Blocks, OutBlocks, has_stack};
-use std::alloc::Global;
+use cose_gate_program::Blocks;
 use std::process::ExitCode;
 use std::{env, fs};
-
-/// How many bytes are held in front of the blocks that are written.
-const FRONT: usize = 4096;
 
 /// What `--version` prints.
 const VERSION: &str = "cose-gate 0.8\n";
@@ -52,24 +43,18 @@ it is out of memory.
 ";
 
 fn main(rt: HostRuntime) -> ExitCode {
-    ExitCode::from(ended(start(&rt), USAGE, &mut rt.stderr()))
+    ExitCode::from(ended(start(&rt), USAGE, &mut Io::new(rt.stderr())))
 }
 
 /// Runs the program, and returns its status.
 fn start(rt: &HostRuntime) -> Result<u8, NotRun> {
     let words = words_of(rt.alloc(), env::args(rt))?;
-    if !has_stack(words.len()) {
-        return Err(NotRun::Memory);
-    }
-    if asks_for_help(words.as_slice()) {
-        return write_help(HELP, &mut rt.stdout());
-    }
-    if asks_for_version(words.as_slice()) {
-        return write_help(VERSION, &mut rt.stdout());
+    if let Some(page) = page_for(words.as_slice(), HELP, VERSION) {
+        return write_page(page, &mut Io::new(rt.stdout()));
     }
     match words.as_slice() {
         [first, rest @ ..] if first.as_str() == "--stream" => start_stream(rt, rest),
-        words => run_with(rt, words, read_keys(rt, words)?),
+        words => run(rt, words, read_keys(rt, words)?),
     }
 }
 
@@ -81,48 +66,19 @@ fn read_keys(rt: &HostRuntime, words: &[String]) -> Result<Content, NotRun> {
     }
 }
 
-/// The run over the standard streams. Blocks that are written are filled from smaller ones.
-fn run_with(rt: &HostRuntime, words: &[String], keys: Content) -> Result<u8, NotRun> {
+/// The run over the standard streams.
+fn run(rt: &HostRuntime, words: &[String], keys: Content) -> Result<u8, NotRun> {
     let alloc = rt.alloc();
     let input = read_in_blocks(alloc, rt.stdin())?;
     let mut output = write_in_blocks(alloc, rt.stdout())?;
     let mut lines = write_in_blocks(alloc, rt.stderr())?;
-    let status = run(
+    Ok(program(
         alloc,
         words,
         keys.bytes.as_deref(),
         keys.fault,
         &mut Blocks::new(input),
-        &mut OutBlocks::new(front(alloc)?, &mut output),
-        &mut OutBlocks::new(front(alloc)?, &mut lines),
-    );
-    // What a flush that failed has left isn't written as the program ends.
-    let _ = (output.into_parts(), lines.into_parts());
-    Ok(status)
-}
-
-/// A block in front of larger ones.
-pub(crate) fn front(alloc: Global) -> Result<Vec<u8>, NotRun> {
-    match Vec::with_capacity(alloc, FRONT) {
-        Ok(front) => Ok(front),
-        Err(_) => Err(NotRun::Memory),
-    }
-}
-
-/// The run that all arguments ask for, over what the file KEYS holds.
-fn run<R: Read, W: Write, E: Write>(
-    alloc: Global,
-    all: &[String],
-    keys: Option<&[u8]>,
-    fault: &str,
-    input: &mut R,
-    out: &mut W,
-    err: &mut E,
-) -> u8
-    ensures { EndsBy E.Write (spec.arguments (map string_bytes all.now))
-        (option_copied keys.entry) fault.now
-        (devices_of R.Read W.Write input.old out.old)
-        (devices_of R.Read W.Write input.new out.new) result err.old err.new }
-{
-    program(alloc, all, keys, fault, input, out, err)
+        &mut output,
+        &mut lines,
+    ))
 }

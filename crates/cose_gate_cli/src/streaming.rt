@@ -1,10 +1,8 @@
 //! `cose-gate --stream`: one message, and the file that its payload goes to.
 use crate::folder::HostFolder;
-use crate::front;
 use ciborium_ll::{Io, Read};
 use cose_gate::Nowhere;
 use cose_gate_command::{Content, KeyFile, NotRun, Note, ended, read_in_blocks, write_in_blocks};
-use cose_gate_program::OutBlocks;
 use cose_stream::{
     EndTeller, STREAM_USAGE, StreamArguments, StreamEnd, StreamTerms, end_status, stream,
     stream_arguments, stream_into, tell_end,
@@ -16,7 +14,7 @@ use std::fs;
 pub fn start_stream(rt: &HostRuntime, words: &[String]) -> Result<u8, NotRun> {
     match stream_arguments(words) {
         Some(asked) => check(rt, asked),
-        None => Ok(ended(Err(NotRun::Usage), STREAM_USAGE, &mut rt.stderr())),
+        None => Ok(ended(Err(NotRun::Usage), STREAM_USAGE, &mut Io::new(rt.stderr()))),
     }
 }
 
@@ -26,7 +24,6 @@ fn check(rt: &HostRuntime, asked: StreamArguments<'_>) -> Result<u8, NotRun> {
     let keys = Content::of_file(fs::read(rt, asked.keys))?;
     let input = read_in_blocks(alloc, rt.stdin())?;
     let mut lines = write_in_blocks(alloc, rt.stderr())?;
-    let front = front(alloc)?;
     let note = RefCell::new(Note::new(alloc, asked.verbose));
     let teller = EndTeller {
         verbose: asked.verbose,
@@ -37,14 +34,7 @@ fn check(rt: &HostRuntime, asked: StreamArguments<'_>) -> Result<u8, NotRun> {
     // Another reader than the gate's: with one type of fault the compiler would no longer put what
     // both call into the gate, and each of its messages would take 4 % more instructions.
     let ended = check_input(rt, asked, teller, &mut Io::new(input));
-    tell_end(
-        alloc,
-        &ended,
-        teller,
-        &mut OutBlocks::new(front, &mut lines),
-    );
-    // What a flush that failed has left isn't written as the program ends.
-    let _ = lines.into_parts();
+    tell_end(alloc, &ended, teller, &mut lines);
     Ok(end_status(&ended.end))
 }
 

@@ -10,5 +10,6 @@ pub mod Options
 pub mod Passing
 pub mod Read
 pub mod RunLines
+pub mod Starting
 pub mod Waiting
 pub mod Written

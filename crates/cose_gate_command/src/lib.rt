@@ -35,6 +35,5 @@ pub use crate::not_run::NotRun;
 pub use crate::options::{AskArguments, PassArguments, ask_arguments, pass_arguments};
 pub use crate::passing::pass;
 pub use crate::starting::{
-    Content, asks_for_help, asks_for_version, ended, hand_on_in_blocks, read_in_blocks, words_of,
-    write_help, write_in_blocks,
+    Content, ended, page_for, read_in_blocks, words_of, write_in_blocks, write_page,
 };

@@ -1,8 +1,10 @@
 //! The lines of the program, and what is said more.
 ghost use Rattle.std.specs.Prelude.{◌≡◌, ◌++◌, ◌∷◌, [], true};
-ghost use Rattle.cose_gate_program.specs.Writing.{Wrote, HandedOn, HandedSince, HandedSince-prop, is_last};
+ghost use Rattle.cose_gate_program.specs.Writing.{Wrote, HandedOn, is_last};
+ghost use Rattle.cose_gate_program.specs.Writing.{HandedSince, HandedSince-prop};
 ghost use Rattle.cose_gate_command.specs.RunLines as spec;
-ghost use Rattle.cose_gate_command.specs.RunLines.{Adds, StaysHandedOn, LineLog, LogsSay, LogsSay-prop};
+ghost use Rattle.cose_gate_command.specs.RunLines.{Adds, StaysHandedOn, LineLog};
+ghost use Rattle.cose_gate_command.specs.RunLines.{LogsSay, LogsSay-prop};
 
 use crate::explained::Note;
 use crate::more::{Place, say_more};

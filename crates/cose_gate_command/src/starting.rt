@@ -1,11 +1,21 @@
 //! How a program starts and ends.
-ghost use Rattle.std.specs.Prelude.{◌≡◌, [], IfOk};
-ghost use Rattle.cose_gate_program.specs.OutOfBlocks.{out_blocks_held};
+ghost use Rattle.std.specs.Prelude.{◌≡◌, [], None, Some, IfErr, IfOk, MatchResult, drop, map};
+ghost use Rattle.std.specs.Prelude.{option_copied, string_bytes};
+ghost use Rattle.std.specs.Io.Buffered.{reader_buffer, reader_inner};
+ghost use Rattle.std.specs.IoError.{error_kind};
+ghost use Rattle.std.specs.Vec.Iter.{into_iter_items};
+ghost use Rattle.cose_gate_program.specs.OutOfBlocks.{out_blocks_failures, out_blocks_held};
+ghost use Rattle.cose_gate_program.specs.OutOfBlocks.{out_blocks_writer};
+ghost use Rattle.cose_gate_program.specs.Writing.{Wrote};
+ghost use Rattle.cose_gate_command.specs.Asking.{Sent, status_of};
+ghost use Rattle.cose_gate_command.specs.Starting as spec;
+ghost use Rattle.cose_gate_command.specs.Starting.{Unread, why_line, why_no_words};
 
 use crate::not_run::NotRun;
-use cose_gate_program::OutBlocks;
-use std::alloc::Global;
-use std::io::{BufReader, BufWriter};
+use ciborium_ll::Write;
+use cose_gate_program::{OutBlocks, has_stack, write_number};
+use std::alloc::{AllocError, Global};
+use std::io::BufReader;
 use std::{env, io};
 
 /// Bytes are read and written in blocks of this length, and lines too.
@@ -14,33 +24,51 @@ const BLOCK: usize = 65536;
 /// The arguments after the program's name.
 ///
 /// # Errors
-/// `Usage` if one isn't UTF-8, and `Memory`.
-pub fn words_of(alloc: Global, all: io::Result<env::Args>) -> Result<Vec<String>, NotRun> {
+/// `Usage` if one isn't UTF-8, and `Memory`, also if there is no stack for a run.
+pub fn words_of(alloc: Global, all: io::Result<env::Args>) -> Result<Vec<String>, NotRun>
+    ensures { MatchResult all
+        (λ given. MatchResult result (λ words. words.items ≡ drop 1 (into_iter_items given))
+        (λ why. why ≡ NotRun.Memory))
+        (λ e. result ≡ Err (why_no_words (error_kind e))) }
+{
     match all {
-        Ok(all) => match all.skip(1).collect::<Vec<String>>(alloc) {
-            Ok(words) => Ok(words),
-            Err(_) => Err(NotRun::Memory),
+        Ok(all) => match words_after_first(alloc, all) {
+            Ok(words) if has_stack(words.len()) => Ok(words),
+            Ok(_) | Err(_) => Err(NotRun::Memory),
         },
-        Err(error) => match error.kind() {
-            io::ErrorKind::OutOfMemory => Err(NotRun::Memory),
-            _ => Err(NotRun::Usage),
-        },
+        Err(error) => Err(match error.kind() {
+            io::ErrorKind::OutOfMemory => NotRun::Memory,
+            _ => NotRun::Usage,
+        }),
     }
 }
 
-/// Whether the only argument asks for help. A file with such a name is `./-h`.
-pub fn asks_for_help(words: &[String]) -> bool {
+fn words_after_first(alloc: Global, all: env::Args) -> Result<Vec<String>, AllocError>
+    ensures { IfOk result (λ words. words.items ≡ drop 1 (into_iter_items all)) }
+{
+    all.skip(1).collect(alloc)
+}
+
+/// The page that the only argument asks for: the help, or the version. A file with such a name is
+/// `./-h`.
+pub fn page_for<'a>(words: &[String], help: &'a str, version: &'a str) -> Option<&'a str>
+    ensures { option_copied result
+        ≡ spec.page_for help.now version.now (map string_bytes words.now) }
+{
     match words {
-        [word] => matches!(word.as_str(), "-h" | "--help"),
-        _ => false,
+        [word] => page_of(word.as_str(), help, version),
+        _ => None,
     }
 }
 
-/// Whether the only argument asks for the version.
-pub fn asks_for_version(words: &[String]) -> bool {
-    match words {
-        [word] => word.as_str() == "--version",
-        _ => false,
+/// The page that one argument asks for.
+fn page_of<'a>(word: &str, help: &'a str, version: &'a str) -> Option<&'a str>
+    ensures { option_copied result ≡ spec.page_of help.now version.now word.now }
+{
+    match word {
+        "-h" | "--help" => Some(help),
+        "--version" => Some(version),
+        _ => None,
     }
 }
 
@@ -48,39 +76,29 @@ pub fn asks_for_version(words: &[String]) -> bool {
 ///
 /// # Errors
 /// `Memory`.
-pub fn read_in_blocks<R: io::Read + Drop>(
-    alloc: Global,
-    reader: R,
-) -> Result<BufReader<R>, NotRun> {
+pub fn read_in_blocks<R: io::Read + Drop>(alloc: Global, reader: R) -> Result<BufReader<R>, NotRun>
+    ensures reader { IfOk result (λ input. reader_inner input ≡ reader) }
+    ensures block { IfOk result (λ input. reader_buffer input ≡ []) }
+    ensures err { IfErr result (λ why. why ≡ NotRun.Memory) }
+{
     match BufReader::with_capacity(alloc, BLOCK, reader) {
         Ok(reader) => Ok(reader),
         Err(_) => Err(NotRun::Memory),
     }
 }
 
-/// A writer in blocks.
+/// A writer in blocks, which tells what it holds back.
 ///
 /// # Errors
 /// `Memory`.
 pub fn write_in_blocks<W: io::Write + Drop>(
     alloc: Global,
     writer: W,
-) -> Result<BufWriter<W>, NotRun> {
-    match BufWriter::with_capacity(alloc, BLOCK, writer) {
-        Ok(writer) => Ok(writer),
-        Err(_) => Err(NotRun::Memory),
-    }
-}
-
-/// A writer in blocks that tells what it holds back.
-///
-/// # Errors
-/// `Memory`.
-pub fn hand_on_in_blocks<W: io::Write + Drop>(
-    alloc: Global,
-    writer: W,
 ) -> Result<OutBlocks<W>, NotRun>
-    ensures { IfOk result (λ out. out_blocks_held out ≡ []) }
+    ensures writer { IfOk result (λ out. out_blocks_writer out ≡ writer) }
+    ensures held { IfOk result (λ out. out_blocks_held out ≡ []) }
+    ensures failed { IfOk result (λ out. out_blocks_failures out ≡ 0) }
+    ensures err { IfErr result (λ why. why ≡ NotRun.Memory) }
 {
     match Vec::with_capacity(alloc, BLOCK) {
         Ok(block) => Ok(OutBlocks::new(block, writer)),
@@ -88,12 +106,16 @@ pub fn hand_on_in_blocks<W: io::Write + Drop>(
     }
 }
 
-/// Writes the help, or the version, and returns the status.
+/// Writes a page, and returns the status.
 ///
 /// # Errors
 /// `Output`.
-pub fn write_help<W: io::Write>(help: &str, out: &mut W) -> Result<u8, NotRun> {
-    match out.write_all(help.as_bytes()) {
+pub fn write_page<W: Write>(page: &str, out: &mut W) -> Result<u8, NotRun>
+    ensures sent { Sent W.Write out.old out.new result page.now }
+    ensures status { IfOk result (λ status. status ≡ 0) }
+    ensures err { IfErr result (λ why. why ≡ NotRun.Output) }
+{
+    match out.write_all(page.as_bytes()) {
         Ok(()) => Ok(0),
         Err(_) => Err(NotRun::Output),
     }
@@ -101,17 +123,50 @@ pub fn write_help<W: io::Write>(help: &str, out: &mut W) -> Result<u8, NotRun> {
 
 /// The status of a program that ended so. Why it didn't run is told in a line, which for other
 /// arguments is `usage`.
-pub fn ended<W: io::Write>(end: Result<u8, NotRun>, usage: &str, err: &mut W) -> u8 {
+pub fn ended<E: Write>(end: Result<u8, NotRun>, usage: &str, err: &mut E) -> u8
+    ensures status { MatchResult end (λ status. result ≡ status) (λ why. result ≡ status_of why) }
+    ensures said { MatchResult end (λ _. err.new ≡ err.old)
+        (λ why. Wrote E.Write err.old err.new (why_line usage.now why)) }
+{
     match end {
         Ok(status) => status,
         Err(why) => {
-            let _ = match why {
-                NotRun::Usage => err.write_all(usage.as_bytes()),
-                _ => writeln!(err, "{why}"),
-            };
+            write_why(why, usage, err);
             why.status()
         }
     }
+}
+
+/// Writes why a program didn't run.
+fn write_why<E: Write>(why: NotRun, usage: &str, err: &mut E)
+    ensures { Wrote E.Write err.old err.new (why_line usage.now why) }
+{
+    match why {
+        NotRun::Usage => write(usage, err),
+        NotRun::NotHex => write("aad: not hex\n", err),
+        NotRun::NoFile => write("accepted: cannot be read\n", err),
+        NotRun::NoRecords => write("accepted: no records\n", err),
+        NotRun::LineNotHex(number) => write_line_fault(number, ": not hex\n", err),
+        NotRun::LineNoRecord(number) => write_line_fault(number, ": no record\n", err),
+        NotRun::Memory => write("stopped: memory\n", err),
+        NotRun::Output => write("stopped: write\n", err),
+    }
+}
+
+/// Writes what is wrong with a line of ACCEPTED.
+fn write_line_fault<E: Write>(number: u64, fault: &str, err: &mut E)
+    ensures { Wrote E.Write err.old err.new (spec.line_fault number fault.now) }
+{
+    write("accepted: line ", err);
+    write_number(number as usize, err);
+    write(fault, err);
+}
+
+/// Writes a text.
+fn write<E: Write>(text: &str, err: &mut E)
+    ensures { Wrote E.Write err.old err.new text.now }
+{
+    let _ = err.write_all(text.as_bytes());
 }
 
 /// What a file holds.
@@ -128,7 +183,11 @@ impl Content {
     ///
     /// # Errors
     /// `Memory`.
-    pub fn of_file(read: io::Result<Vec<u8>>) -> Result<Content, NotRun> {
+    pub fn of_file(read: io::Result<Vec<u8>>) -> Result<Content, NotRun>
+        ensures { MatchResult read
+            (λ bytes. MatchResult result (λ content. content.bytes ≡ Some bytes) (λ why. ⊥))
+            (λ e. Unread (error_kind e) result) }
+    {
         match read {
             Ok(bytes) => Ok(Content {
                 bytes: Some(bytes),
@@ -145,96 +204,10 @@ impl Content {
     }
 
     /// None, and why.
-    pub fn none(fault: &'static str) -> Content {
+    pub fn none(fault: &'static str) -> Content
+        ensures bytes { result.bytes ≡ None }
+        ensures fault { result.fault.now ≡ fault.now }
+    {
         Content { bytes: None, fault }
-    }
-}
-
-#[cfg(test)]
-mod tests {
-    use super::*;
-    use std::process::Abort;
-
-    fn words(rt: &impl Abort, alloc: Global, all: &[&str]) -> Vec<String> {
-        let mut words = Vec::new(alloc);
-        for word in all {
-            let word = String::from_str(alloc, word).expect(rt, "memory");
-            words.push(word).expect(rt, "memory");
-        }
-        words
-    }
-
-    #[test]
-    fn each_end_has_its_status_and_line(rt: HostRuntime) {
-        for (end, status, line) in [
-            (Ok(0), 0, ""),
-            (Ok(1), 1, ""),
-            (Ok(4), 4, ""),
-            (Err(NotRun::Usage), 2, "usage: it\n"),
-            (Err(NotRun::NotHex), 2, "aad: not hex\n"),
-            (Err(NotRun::NoFile), 3, "accepted: cannot be read\n"),
-            (Err(NotRun::NoRecords), 3, "accepted: no records\n"),
-            (Err(NotRun::LineNotHex(7)), 3, "accepted: line 7: not hex\n"),
-            (
-                Err(NotRun::LineNoRecord(7)),
-                3,
-                "accepted: line 7: no record\n",
-            ),
-            (Err(NotRun::Memory), 4, "stopped: memory\n"),
-            (Err(NotRun::Output), 4, "stopped: write\n"),
-        ] {
-            let mut err = Vec::new(rt.alloc());
-            assert_eq!(rt; ended(end, "usage: it\n", &mut err), status);
-            assert_eq!(rt; err.as_slice(), line.as_bytes());
-        }
-    }
-
-    #[test]
-    fn help_is_asked_for_alone(rt: HostRuntime) {
-        let alloc = rt.alloc();
-        for (all, is_help) in [
-            (["it"].as_slice(), false),
-            (["it", "-h"].as_slice(), true),
-            (["it", "--help"].as_slice(), true),
-            (["it", "-help"].as_slice(), false),
-            (["it", "-h", "-h"].as_slice(), false),
-        ] {
-            let args = words(&rt, alloc, all).into_iter();
-            let found = words_of(alloc, Ok(args)).expect(&rt, "words");
-            assert!(rt; found == words(&rt, alloc, &all[1..]));
-            assert_eq!(rt; asks_for_help(&found), is_help);
-            assert!(rt; !asks_for_version(&found));
-        }
-        for (kind, why) in [
-            (io::ErrorKind::InvalidData, NotRun::Usage),
-            (io::ErrorKind::OutOfMemory, NotRun::Memory),
-        ] {
-            let found = words_of(alloc, Err(io::Error::from(kind)));
-            assert_eq!(rt; found.err(), Some(why));
-        }
-        assert!(rt; asks_for_version(&words(&rt, alloc, &["--version"])));
-        assert!(rt; !asks_for_version(&words(&rt, alloc, &["--version", "it"])));
-        let mut page = Vec::new(alloc);
-        assert_eq!(rt; write_help("help", &mut page), Ok(0));
-        assert_eq!(rt; page.as_slice(), b"help".as_slice());
-        let mut full: &mut [u8] = &mut [0; 3];
-        assert_eq!(rt; write_help("help", &mut full), Err(NotRun::Output));
-    }
-
-    #[test]
-    fn a_file_that_fails_has_a_reason(rt: HostRuntime) {
-        let bytes = [7].to_vec(rt.alloc()).expect(&rt, "memory");
-        let content = Content::of_file(Ok(bytes)).expect(&rt, "bytes");
-        assert_eq!(rt; content.bytes.as_deref(), Some([7].as_slice()));
-        for (kind, fault) in [
-            (io::ErrorKind::NotFound, Ok("no such file")),
-            (io::ErrorKind::PermissionDenied, Ok("no permission")),
-            (io::ErrorKind::IsADirectory, Ok("a folder")),
-            (io::ErrorKind::Other, Ok("it can't be read")),
-            (io::ErrorKind::OutOfMemory, Err(NotRun::Memory)),
-        ] {
-            let content = Content::of_file(Err(io::Error::from(kind)));
-            assert_eq!(rt; content, fault.map(Content::none));
-        }
     }
 }

@@ -26,7 +26,7 @@ pub use crate::blocks::Blocks;
 pub use crate::devices::{Input, InputFault, OutputFault};
 pub use crate::judge::HmacJudge;
 pub use crate::keys::{find_key, fits, secret_of};
-pub use crate::lines::{hand_on, write_logged, write_notice};
+pub use crate::lines::{hand_on, write_logged, write_notice, write_number};
 pub use crate::out_blocks::OutBlocks;
 pub use crate::program::{
     last_of, run, run_judged, run_over, run_over_told, run_told, run_with, status_after,

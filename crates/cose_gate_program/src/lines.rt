@@ -5,7 +5,8 @@ ghost use Rattle.cose_gate_program.specs.Lines as spec;
 ghost use Rattle.cose_gate_program.specs.Lines.{line_of};
 ghost use Rattle.ciborium_ll.specs.declared.log.Log.{Log};
 ghost use Rattle.cose_gate_program.specs.Writing.{Wrote, WroteLines, WroteLines-prop};
-ghost use Rattle.cose_gate_program.specs.Writing.{LentLines, HandedOn, HandedSince, HandedSince-prop};
+ghost use Rattle.cose_gate_program.specs.Writing.{LentLines, HandedOn};
+ghost use Rattle.cose_gate_program.specs.Writing.{HandedSince, HandedSince-prop};
 ghost use Rattle.cose_gate_program.specs.Writing.{is_last as spec_last};
 
 use crate::beginning::NotBegun;
@@ -203,7 +204,8 @@ fn write_cose_error<W: Write>(error: CoseError, out: &mut W)
     }
 }
 
-fn write_number<W: Write>(number: usize, out: &mut W)
+/// Writes a number.
+pub fn write_number<W: Write>(number: usize, out: &mut W)
     ensures { Wrote W.Write out.old out.new (decimal number) }
 {
     let mut digits = [0; DIGITS];

@@ -5,10 +5,10 @@
 
 use ciborium_ll::Io;
 use cose_gate_command::{
-    Content, NotRun, asks_for_help, asks_for_version, ended, hand_on_in_blocks, pass,
-    pass_arguments, read_in_blocks, words_of, write_help, write_in_blocks,
+    Content, NotRun, ended, page_for, pass, pass_arguments, read_in_blocks, words_of,
+    write_in_blocks, write_page,
 };
-use cose_gate_program::{Blocks, has_stack};
+use cose_gate_program::Blocks;
 use std::process::ExitCode;
 use std::{env, fs};
 
@@ -42,20 +42,14 @@ CBOR, input or output failed, or out of memory.
 ";
 
 fn main(rt: HostRuntime) -> ExitCode {
-    ExitCode::from(ended(start(&rt), USAGE, &mut rt.stderr()))
+    ExitCode::from(ended(start(&rt), USAGE, &mut Io::new(rt.stderr())))
 }
 
 /// Runs the program, and returns its status.
 fn start(rt: &HostRuntime) -> Result<u8, NotRun> {
     let words = words_of(rt.alloc(), env::args(rt))?;
-    if !has_stack(words.len()) {
-        return Err(NotRun::Memory);
-    }
-    if asks_for_help(words.as_slice()) {
-        return write_help(HELP, &mut rt.stdout());
-    }
-    if asks_for_version(words.as_slice()) {
-        return write_help(VERSION, &mut rt.stdout());
+    if let Some(page) = page_for(words.as_slice(), HELP, VERSION) {
+        return write_page(page, &mut Io::new(rt.stdout()));
     }
     let accepted = read_accepted(rt, words.as_slice())?;
     run(rt, words.as_slice(), accepted)
@@ -73,17 +67,14 @@ fn read_accepted(rt: &HostRuntime, words: &[String]) -> Result<Content, NotRun> 
 fn run(rt: &HostRuntime, words: &[String], accepted: Content) -> Result<u8, NotRun> {
     let alloc = rt.alloc();
     let input = read_in_blocks(alloc, rt.stdin())?;
-    let mut output = hand_on_in_blocks(alloc, rt.stdout())?;
+    let mut output = write_in_blocks(alloc, rt.stdout())?;
     let mut lines = write_in_blocks(alloc, rt.stderr())?;
-    let end = pass(
+    pass(
         alloc,
         words,
         accepted.bytes,
         &mut Blocks::new(input),
         &mut output,
-        &mut Io::new(&mut lines),
-    );
-    // What a flush that failed has left isn't written as the program ends.
-    let _ = lines.into_parts();
-    end
+        &mut lines,
+    )
 }

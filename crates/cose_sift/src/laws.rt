@@ -5,7 +5,8 @@ ghost use Rattle.ciborium_value.specs.Tree.{Tree};
 ghost use Rattle.cose_sift.specs.Grammar.{Item};
 ghost use Rattle.cose_sift.specs.Sifting.{Sifted, AsReceived, IsReadThrough};
 ghost use Rattle.cose_sift.specs.Untagging.{Content};
-ghost use Rattle.cose_sift.specs.Walking.{Goes, IsNothing, IsOne, IsSound, IsDeep, Counts, wanted_by};
+ghost use Rattle.cose_sift.specs.Walking.{Goes, IsNothing, IsOne, IsSound, IsDeep};
+ghost use Rattle.cose_sift.specs.Walking.{Counts, wanted_by};
 ghost use Rattle.cose_sift.specs.declared.sifting.Options.{Options};
 ghost use Rattle.cose_sift.specs.declared.walk.Walk.{Walk};
 

@@ -15,10 +15,9 @@ mod walk;
 use crate::sifting::{Options, sift_told};
 use ciborium_ll::{Decoder, Io};
 use cose_gate_command::{
-    NotRun, asks_for_help, asks_for_version, ended, hand_on_in_blocks, read_in_blocks, words_of,
-    write_help, write_in_blocks,
+    NotRun, ended, page_for, read_in_blocks, words_of, write_in_blocks, write_page,
 };
-use cose_gate_program::{Blocks, has_stack};
+use cose_gate_program::Blocks;
 use std::env;
 use std::process::ExitCode;
 
@@ -45,20 +44,14 @@ item or end inside one, input or output failed, or it is out of memory.
 ";
 
 fn main(rt: HostRuntime) -> ExitCode {
-    ExitCode::from(ended(start(&rt), USAGE, &mut rt.stderr()))
+    ExitCode::from(ended(start(&rt), USAGE, &mut Io::new(rt.stderr())))
 }
 
 /// Runs the program, and returns its status.
 fn start(rt: &HostRuntime) -> Result<u8, NotRun> {
     let words = words_of(rt.alloc(), env::args(rt))?;
-    if !has_stack(words.len()) {
-        return Err(NotRun::Memory);
-    }
-    if asks_for_help(words.as_slice()) {
-        return write_help(HELP, &mut rt.stdout());
-    }
-    if asks_for_version(words.as_slice()) {
-        return write_help(VERSION, &mut rt.stdout());
+    if let Some(page) = page_for(words.as_slice(), HELP, VERSION) {
+        return write_page(page, &mut Io::new(rt.stdout()));
     }
     match options_of(words.as_slice()) {
         Some(options) => run(rt, options),
@@ -90,12 +83,8 @@ fn options_of(words: &[String]) -> Option<Options> {
 fn run(rt: &HostRuntime, options: Options) -> Result<u8, NotRun> {
     let alloc = rt.alloc();
     let input = read_in_blocks(alloc, rt.stdin())?;
-    let mut out = hand_on_in_blocks(alloc, rt.stdout())?;
+    let mut out = write_in_blocks(alloc, rt.stdout())?;
     let mut lines = write_in_blocks(alloc, rt.stderr())?;
     let mut decoder = Decoder::from(Blocks::new(input));
-    let mut told = Io::new(&mut lines);
-    let status = sift_told(alloc, options, &mut decoder, &mut out, &mut told);
-    // What a flush that failed has left isn't written as the program ends.
-    let _ = lines.into_parts();
-    Ok(status)
+    Ok(sift_told(alloc, options, &mut decoder, &mut out, &mut lines))
 }

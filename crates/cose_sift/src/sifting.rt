@@ -1,5 +1,6 @@
 //! The items that can be read.
-ghost use Rattle.std.specs.Prelude.{◌≡◌, ◌≢◌, ◌<◌, [], Ok, None, true, false, IfOk, OnOk, IfErr, MatchBool};
+ghost use Rattle.std.specs.Prelude.{◌≡◌, ◌≢◌, ◌<◌, [], Ok, None, true, false};
+ghost use Rattle.std.specs.Prelude.{IfOk, OnOk, IfErr, MatchBool};
 ghost use Rattle.std.specs.Prelude.{◌⊎◌, ◌+◌};
 ghost use Rattle.std.specs.Io.KnownBytes.{Keeps, Appends};
 ghost use Rattle.ciborium_ll.specs.Device.{AppendsFront};

@@ -1,5 +1,6 @@
 //! The heads of one item.
-ghost use Rattle.std.specs.Prelude.{◌≡◌, ◌≢◌, ◌<◌, ◌≤◌, ◌^◌, ◌+◌, ◌∷◌, ℕ, List, [], length, reverse};
+ghost use Rattle.std.specs.Prelude.{◌≡◌, ◌≢◌, ◌<◌, ◌≤◌, ◌^◌, ◌+◌, ◌∷◌};
+ghost use Rattle.std.specs.Prelude.{ℕ, List, [], length, reverse};
 ghost use Rattle.std.specs.Prelude.{None, Some, OnOk, OnErr, IfErr, IfSome, IfNone, true, false};
 ghost use Rattle.ciborium_ll.specs.Title.{Title};
 ghost use Rattle.ciborium_ll.specs.declared.hdr.Header.TheVariants.{Break};

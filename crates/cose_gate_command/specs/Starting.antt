@@ -1,0 +1,53 @@
+-- How a program starts and ends.
+use Rattle.std.specs.Prelude.{◌≡◌, ℕ, List, [], ◌∷◌, ◌++◌, Option, None, Some, Result, Ok, Err, ◌||◌, if◌then◌else◌, bytes_eq, codes}
+use Rattle.std.specs.Fmt.{decimal}
+use Rattle.std.specs.declared.io.ErrorKind.{ErrorKind}
+use Rattle.std.specs.declared.io.ErrorKind.TheVariants as kind
+use Rattle.cose_gate_command.specs.declared.not_run.NotRun.{NotRun}
+use Rattle.cose_gate_command.specs.declared.not_run.NotRun.TheVariants as unrun
+use Rattle.cose_gate_command.specs.declared.starting.Content.{Content}
+
+-- why there are no arguments: it is out of memory, or one of them isn't UTF-8
+abbrev pub why_no_words : ErrorKind → NotRun
+why_no_words kind.OutOfMemory = unrun.Memory
+why_no_words _ = unrun.Usage
+
+-- the page that one argument asks for
+abbrev pub page_of : List ℕ → List ℕ → List ℕ → Option (List ℕ)
+page_of help version word =
+    if bytes_eq word (codes "-h") || bytes_eq word (codes "--help") then Some help
+    else (if bytes_eq word (codes "--version") then Some version else None)
+
+-- the page that these arguments ask for: it has to be the only one
+abbrev pub page_for : List ℕ → List ℕ → List (List ℕ) → Option (List ℕ)
+page_for help version [] = None
+page_for help version (word ∷ []) = page_of help version word
+page_for help version (word ∷ next ∷ more) = None
+
+-- the line on a line of ACCEPTED
+abbrev pub line_fault : ℕ → List ℕ → List ℕ
+line_fault number fault = codes "accepted: line " ++ (decimal number ++ fault)
+
+-- the line that says why a program didn't run, or ended without its output
+abbrev pub why_line : List ℕ → NotRun → List ℕ
+why_line usage unrun.Usage = usage
+why_line usage unrun.NotHex = codes "aad: not hex\n"
+why_line usage unrun.NoFile = codes "accepted: cannot be read\n"
+why_line usage unrun.NoRecords = codes "accepted: no records\n"
+why_line usage (unrun.LineNotHex number) = line_fault number (codes ": not hex\n")
+why_line usage (unrun.LineNoRecord number) = line_fault number (codes ": no record\n")
+why_line usage unrun.Memory = codes "stopped: memory\n"
+why_line usage unrun.Output = codes "stopped: write\n"
+
+-- a file can't be read for this reason
+abbrev pub IsUnread : List ℕ → Result Content NotRun → Type 0
+IsUnread reason (Ok c) = (c.bytes ≡ None) × (c.fault.now ≡ reason)
+IsUnread reason (Err why) = ⊥
+
+-- what reading a file with a fault of this kind gave
+abbrev pub Unread : ErrorKind → Result Content NotRun → Type 0
+Unread kind.OutOfMemory read = read ≡ Err unrun.Memory
+Unread kind.NotFound read = IsUnread (codes "no such file") read
+Unread kind.PermissionDenied read = IsUnread (codes "no permission") read
+Unread kind.IsADirectory read = IsUnread (codes "a folder") read
+Unread _ read = IsUnread (codes "it can't be read") read
