@@ -1,6 +1,7 @@
 """Algorithms, keys, signatures and MACs for cose-verify, cose-key and cose-make, by python3-cryptography."""
 
 import base64
+import hashlib
 import hmac
 import json
 import os
@@ -407,11 +408,11 @@ def verify(algorithm, key, covered, signature):
             if not hmac.compare_digest(mac(algorithm, key, covered), signature):
                 raise Refused("the tag isn't good")
         elif algorithm.kind == "EC":
-            key.public.verify(der_of(algorithm, key, signature), covered, ec.ECDSA(algorithm.hash))
+            key.public.verify(der_of(algorithm, key, signature), hashed(algorithm, covered), ec.ECDSA(utils.Prehashed(algorithm.hash)))
         elif algorithm.kind == "OKP":
             key.public.verify(signature, covered)
         else:
-            key.public.verify(signature, covered, padding_of(algorithm), algorithm.hash)
+            key.public.verify(signature, hashed(algorithm, covered), padding_of(algorithm), utils.Prehashed(algorithm.hash))
     except InvalidSignature:
         raise Refused("the signature isn't good") from None
 
@@ -427,6 +428,11 @@ def sign(algorithm, key, covered):
     if algorithm.kind == "OKP":
         return key.private.sign(covered)
     return key.private.sign(covered, padding_of(algorithm), algorithm.hash)
+
+
+def hashed(algorithm, covered):
+    """The hash of what is covered, which hashlib makes faster than python3-cryptography."""
+    return hashlib.new(algorithm.hash.name, covered).digest()
 
 
 def mac(algorithm, key, covered):

@@ -240,6 +240,16 @@ class Tools(unittest.TestCase):
     def test_one_pem_is_for_every_key_id(self):
         alone = self.put("alone.pem", pem(P256))
         self.passes(GOOD + sign1({1: -7}, {}) + sign1({1: -7}, {4: b"else"}), keys=alone)
+        ids = [b"id%d" % n for n in range(40)]
+        several = signed([({1: -7, 4: kid}, {}, ES256) for kid in ids[:20]] + [({1: -7}, {4: kid}, ES256) for kid in ids[20:]])
+        opened = h("d8629f40a0") + cbor2.dumps(b"hi") + h("9f") + b"".join(
+            h("9f") + b"".join(map(cbor2.dumps, each)) + h("ff") for each in cbor2.loads(several).value[3]) + h("ffff")
+        self.passes(several + GOOD + opened + b"".join(sign1({1: -7}, {4: b"n%d" % n}) for n in range(300)), keys=alone,
+                    as_bytes=several + GOOD + several + b"".join(sign1({1: -7}, {4: b"n%d" % n}) for n in range(300)))
+        wrong = [flipped(sign1({1: -7}, {4: b"new"})), sign1({1: -8}, {4: b"newer"}), sign1({1: -7}, {4: b"1", -1: [h("a0")] * 3}, sign=ED.sign)]
+        self.refused([("Judged", 'ES256 under alone.pem, 6e6577 \\("new"\\): the signature isn\'t good', wrong[0]),
+                      ("Judged", 'another type \\(EdDSA, 6e65776572 \\("newer"\\): EC P-256 in alone.pem', wrong[1]),
+                      ("Judged", "ES256 under alone.pem", wrong[2])], keys=alone)
 
     def test_names_of_files(self):
         for name in ("ed", "BEEF", "3131"):
@@ -395,6 +405,11 @@ class Tools(unittest.TestCase):
         self.assertRegex(self.verify(GOOD, keys=limited, status=1)[1], 
                          "for other operations \\(ES256, .*: EC P-256 in limited, EC P-256 for ESP256 in limited")
         self.assertEqual(self.verify(b"", status=0)[1], "passed 0, refused 0\n")
+        # Keys that no message can name, or no rule takes, are in nobody's way.
+        odd = [{**to_cose(P256, b"dev1"), 3: alg} for alg in (-1, 9999, -70_000, "ES256")]
+        self.passes(GOOD, keys=self.put("odd", cbor2.dumps([*odd, {**to_cose(P256, b""), 4: [2]}, to_cose(P256, b"dev1")])))
+        out, told, _ = self.verify(sign1({1: -7}, {}) + GOOD, keys=self.put("empty.kid", cbor2.dumps([to_cose(P256, b""), *odd])), status=1)
+        self.assertRegex(told, "(?s)no key has its key id.*for another algorithm")
 
     def test_one_message(self):
         for status, words, out, data in (
@@ -457,6 +472,26 @@ class Tools(unittest.TestCase):
         peak, out, told, status = peak_of("--keys", self.keys, data=GOOD + bytes(200_000) + GOOD)
         self.assertEqual((out, status), (GOOD * 2, 1))
         self.assertLess(peak, 150)
+
+    def test_memory_of_a_message_that_passes(self):
+        """It isn't that of its payload for each signature."""
+        message = signed([({1: -7}, KID, ES256), ({1: -8}, {4: b"ed"}, ED.sign)] * 100, payload=bytes(1 << 20))
+        peak, out, told, status = peak_of("--keys", self.keys, data=message + GOOD)
+        self.assertEqual((out, status), (message + GOOD, 0), told)
+        self.assertLess(peak, 60)
+
+    def test_signers_whose_bytes_differ(self):
+        """Each signature is checked over its own bytes, however much they share with those of the first one."""
+        ed = {4: b"ed"}
+        headers = [{1: -8}, {1: -8, "x": b""}, {1: -8, "x": bytes(40)}, {1: -8, "x": bytes(300)}, {1: -8, "y": bytes(300)}, {1: -8}, {4: b"ed", 1: -8}]
+        for body in (b"", cbor2.dumps({"x": bytes(40)})):
+            for payload in (b"", bytes(8), bytes(300)):
+                for first in headers:
+                    signers = [(each, {} if 4 in each else ed, ED.sign) for each in (first, *headers)]
+                    good = signed(signers, payload, body)
+                    self.passes(good)
+        place = good.index(b"\x61y")
+        self.refused([("Judged", "signature \\d of 8: EdDSA under", good[:place] + b"\x61z" + good[place + 2:])])
 
     def test_limited_memory(self):
         limited = ["bash", "-c", 'ulimit -v 250000; exec "$@"', "bash"]
