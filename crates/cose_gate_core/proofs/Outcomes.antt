@@ -190,22 +190,25 @@ module _ {T S E : Type 0} (ends : E → Bool) (live : Bool) (by : Rules T S) (ol
       → EndsAt ends live by.limits by.allows by.aad old.left done rest g → Leaves g old.left new.left rest → Made by old new done
       → new.offset + length rest ≡ old.offset + length input
       → r ≡ result_of by.allows by.aad (record { done = done; ending = g; rest = rest }) → FaultAt ends by.limits old.offset old.left rest g → NamesShapes by.limits done → RanSteps ends live by old new done r
-  between r done g more rest hand asked written input is course whole ends_at left made stands same fault shapes = (record {
-    input = input;
-    is = is;
-    run = record { done = done; ending = g; rest = rest };
-    course = subst (λ (ss : List Step). Course by.limits by.allows by.aad old.offset input ss (taken_at g ++ rest)) (sym (ap (λ z. done ++ z) hand ∙ append-nil done))
-        (subst (λ (b : List ℕ). Course by.limits by.allows by.aad old.offset input done b) whole course);
-    ends_at = ends_at;
-    asked = made.told ∙ ap (folded_over by.decided old.told) (sym (ap (λ z. qs done ++ z) asked ∙ append-nil (qs done)));
-    noted = made.state;
-    written = subst (λ (b : List ℕ). Appends old.written new.written b) (sym (ap (λ z. ws done ++ z) written ∙ append-nil (ws done))) made.written;
-    returned = same;
-    stands = stands;
-    left = left;
-    fault = fault;
-    shapes = subst (λ (ss : List Step). NamesShapes by.limits ss) (sym (ap (λ z. done ++ z) hand ∙ append-nil done)) shapes;
-  }, refl)
+  between r done g more rest hand asked written input is course whole ends_at left made stands same fault shapes = (
+    record {
+      input = input;
+      is = is;
+      run = record { done = done; ending = g; rest = rest };
+      course = subst (λ (ss : List Step). Course by.limits by.allows by.aad old.offset input ss (taken_at g ++ rest)) (sym (ap (λ z. done ++ z) hand ∙ append-nil done))
+          (subst (λ (b : List ℕ). Course by.limits by.allows by.aad old.offset input done b) whole course);
+      ends_at = ends_at;
+      asked = made.told ∙ ap (folded_over by.decided old.told) (sym (ap (λ z. qs done ++ z) asked ∙ append-nil (qs done)));
+      noted = made.state;
+      written = subst (λ (b : List ℕ). Appends old.written new.written b) (sym (ap (λ z. ws done ++ z) written ∙ append-nil (ws done))) made.written;
+      returned = same;
+      stands = stands;
+      left = left;
+      fault = fault;
+      shapes = subst (λ (ss : List Step). NamesShapes by.limits ss) (sym (ap (λ z. done ++ z) hand ∙ append-nil done)) shapes;
+    },
+    refl,
+  )
 
 -- a flush adds nothing
 pub flushed : (a b c : Option (List ℕ)) (x : List ℕ) → Keeps b c → Appends a b x → Appends a c x
@@ -246,22 +249,24 @@ module _ {T S : Type 0} (rules : Rules T S) where
   reached_step old new newer passed refused passed' refused' done r v t verdict k e same state more less =
       let s = step_at new.offset t.bytes v k.finding (entry_at (passed + refused + 1) new.offset verdict) in
       let w = further rules old new newer passed refused done r v t k.finding verdict k.finds k.verdict k.shape in
-      let q = verdict_passes rules.limits rules.allows rules.aad k.finding verdict k.verdict in
-      (s, record {
-        taken = w.taken;
-        steps = w.steps;
-        shapes = w.shapes;
-        made = record {
-          told = told_then rules old.told new.told newer.told done s r.made.told k.tells;
-          state = state ∙ ap (λ z. rules.folded z e) r.made.state ∙ ap (rules.folded (folded_over rules.folded old.state (entries_of done))) same
-              ∙ sym (folded_append rules.folded old.state (entries_of done) (s.entry ∷ [])) ∙ ap (folded_over rules.folded old.state) (sym (entries_then rules done s));
-          written = written_then old new newer done s r.made.written k.writes;
-        };
-        passed_is = more ∙ ap (λ n. n + cond (has_passed verdict) 1 0) r.passed_is ∙ ap (λ b. passed_count rules.allows rules.aad done + cond b 1 0) q
-            ∙ sym (count_then (λ s. passes rules.allows rules.aad s.finding) done s);
-        refused_is = less ∙ ap (λ n. n + cond (not (has_passed verdict)) 1 0) r.refused_is ∙ ap (λ b. refused_count rules.allows rules.aad done + cond (not b) 1 0) q
-            ∙ sym (count_then (λ s. not (passes rules.allows rules.aad s.finding)) done s);
-      })
+      let q = verdict_passes rules.limits rules.allows rules.aad k.finding verdict k.verdict in (
+        s,
+        record {
+          taken = w.taken;
+          steps = w.steps;
+          shapes = w.shapes;
+          made = record {
+            told = told_then rules old.told new.told newer.told done s r.made.told k.tells;
+            state = state ∙ ap (λ z. rules.folded z e) r.made.state ∙ ap (rules.folded (folded_over rules.folded old.state (entries_of done))) same
+                ∙ sym (folded_append rules.folded old.state (entries_of done) (s.entry ∷ [])) ∙ ap (folded_over rules.folded old.state) (sym (entries_then rules done s));
+            written = written_then old new newer done s r.made.written k.writes;
+          };
+          passed_is = more ∙ ap (λ n. n + cond (has_passed verdict) 1 0) r.passed_is ∙ ap (λ b. passed_count rules.allows rules.aad done + cond b 1 0) q
+              ∙ sym (count_then (λ s. passes rules.allows rules.aad s.finding) done s);
+          refused_is = less ∙ ap (λ n. n + cond (not (has_passed verdict)) 1 0) r.refused_is ∙ ap (λ b. refused_count rules.allows rules.aad done + cond (not b) 1 0) q
+              ∙ sym (count_then (λ s. not (passes rules.allows rules.aad s.finding)) done s);
+        },
+      )
 
   -- the bytes that were there, and what is left of them
   pub record Left (old new : GateState T S) (steps : List Step) (more : List ℕ) : Type 0 where
@@ -347,24 +352,26 @@ module _ {T S : Type 0} (rules : Rules T S) where
   memory_asking ends live old new newer passed refused done r v t h state writes =
       let s = judged_step (passed + refused + 1) new.offset t.bytes v h.message in
       let f = further rules old new newer passed refused done r v t (judged h.message) (judged_by (first_no rules.allows (questions h.message rules.aad))) h.is refl (answers_name rules.limits v (first_no rules.allows (questions h.message rules.aad))) in
-      let w = left_after old newer (done ++ s ∷ []) f.taken f.steps (rest_of newer.left) (rest_known newer.left) in
-      (record {
-        input = w.input;
-        is = w.is;
-        run = record { done = done; ending = within s (asking h.part.front); rest = rest_of newer.left };
-        course = w.course;
-        ends_at = (front_then h.part.front (h.part.next ∷ h.part.more) (asked_of rules.allows rules.aad (judged h.message)) h.part.whole, λ whole. not_whole h.part.front h.part.more h.part.next (whole ∙ h.part.whole));
-        asked = h.part.tells ∙ ap (λ z. folded_over rules.decided z h.part.front) r.made.told
-            ∙ sym (folded_append rules.decided old.told (questions_of rules.allows rules.aad done) h.part.front);
-        noted = state ∙ r.made.state;
-        written = subst (λ (z : List ℕ). Appends old.written newer.written z) (sym (append-nil (output_of rules.allows rules.aad done)))
-            (subst (λ (z : Option (List ℕ)). Appends old.written z (output_of rules.allows rules.aad done)) (sym writes) r.made.written);
-        returned = refl;
-        stands = w.stop;
-        left = w.behind;
-        fault = tt;
-        shapes = f.shapes;
-      }, refl)
+      let w = left_after old newer (done ++ s ∷ []) f.taken f.steps (rest_of newer.left) (rest_known newer.left) in (
+        record {
+          input = w.input;
+          is = w.is;
+          run = record { done = done; ending = within s (asking h.part.front); rest = rest_of newer.left };
+          course = w.course;
+          ends_at = (front_then h.part.front (h.part.next ∷ h.part.more) (asked_of rules.allows rules.aad (judged h.message)) h.part.whole, λ whole. not_whole h.part.front h.part.more h.part.next (whole ∙ h.part.whole));
+          asked = h.part.tells ∙ ap (λ z. folded_over rules.decided z h.part.front) r.made.told
+              ∙ sym (folded_append rules.decided old.told (questions_of rules.allows rules.aad done) h.part.front);
+          noted = state ∙ r.made.state;
+          written = subst (λ (z : List ℕ). Appends old.written newer.written z) (sym (append-nil (output_of rules.allows rules.aad done)))
+              (subst (λ (z : Option (List ℕ)). Appends old.written z (output_of rules.allows rules.aad done)) (sym writes) r.made.written);
+          returned = refl;
+          stands = w.stop;
+          left = w.behind;
+          fault = tt;
+          shapes = f.shapes;
+        },
+        refl,
+      )
 
   -- Write, in the encoding of one more message
   write_within : {E : Type 0} (ends : E → Bool) (live : Bool) (old new newer : GateState T S) (passed refused : ℕ) (done : List Step) → Reached rules old new passed refused done
@@ -374,23 +381,25 @@ module _ {T S : Type 0} (rules : Rules T S) where
   write_within ends live old new newer passed refused done r v t h state =
       let s = judged_step (passed + refused + 1) new.offset t.bytes v h.message in
       let f = further rules old new newer passed refused done r v t (judged h.message) (judged_by (first_no rules.allows (questions h.message rules.aad))) h.is refl (answers_name rules.limits v (first_no rules.allows (questions h.message rules.aad))) in
-      let w = left_after old newer (done ++ s ∷ []) f.taken f.steps (rest_of newer.left) (rest_known newer.left) in
-      (record {
-        input = w.input;
-        is = w.is;
-        run = record { done = done; ending = within s (writing h.front); rest = rest_of newer.left };
-        course = w.course;
-        ends_at = (h.passed, subst (λ (z : List ℕ). IsFront h.front z) (ap (λ z. cond z (text_of (judged h.message)) []) h.passed) h.front_is);
-        asked = h.tells ∙ ap (λ z. folded_over rules.decided z (asked_of rules.allows rules.aad (judged h.message))) r.made.told
-            ∙ sym (folded_append rules.decided old.told (questions_of rules.allows rules.aad done) (asked_of rules.allows rules.aad (judged h.message)));
-        noted = state ∙ r.made.state;
-        written = Appends-trans old.written new.written newer.written (output_of rules.allows rules.aad done) h.front r.made.written h.writes;
-        returned = refl;
-        stands = w.stop;
-        left = w.behind;
-        fault = tt;
-        shapes = f.shapes;
-      }, refl)
+      let w = left_after old newer (done ++ s ∷ []) f.taken f.steps (rest_of newer.left) (rest_known newer.left) in (
+        record {
+          input = w.input;
+          is = w.is;
+          run = record { done = done; ending = within s (writing h.front); rest = rest_of newer.left };
+          course = w.course;
+          ends_at = (h.passed, subst (λ (z : List ℕ). IsFront h.front z) (ap (λ z. cond z (text_of (judged h.message)) []) h.passed) h.front_is);
+          asked = h.tells ∙ ap (λ z. folded_over rules.decided z (asked_of rules.allows rules.aad (judged h.message))) r.made.told
+              ∙ sym (folded_append rules.decided old.told (questions_of rules.allows rules.aad done) (asked_of rules.allows rules.aad (judged h.message)));
+          noted = state ∙ r.made.state;
+          written = Appends-trans old.written new.written newer.written (output_of rules.allows rules.aad done) h.front r.made.written h.writes;
+          returned = refl;
+          stands = w.stop;
+          left = w.behind;
+          fault = tt;
+          shapes = f.shapes;
+        },
+        refl,
+      )
 
   -- the item failed
   pub answer_item : {E : Type 0} (ends : E → Bool) (live : Bool) (old new newer : GateState T S) (passed refused : ℕ) (done : List Step) → Reached rules old new passed refused done
@@ -410,26 +419,28 @@ module _ {T S : Type 0} (rules : Rules T S) where
   answer_noting ends live old new newer passed refused done r v t verdict k state =
       let s = step_at new.offset t.bytes v k.finding (entry_at (passed + refused + 1) new.offset verdict) in
       let f = further rules old new newer passed refused done r v t k.finding verdict k.finds k.verdict k.shape in
-      let w = left_after old newer (done ++ s ∷ []) f.taken f.steps (rest_of newer.left) (rest_known newer.left) in
-      (record {
-        input = w.input;
-        is = w.is;
-        run = record { done = done; ending = within s noting; rest = rest_of newer.left };
-        course = w.course;
-        ends_at = tt;
-        asked = k.tells ∙ ap (λ z. folded_over rules.decided z (asked_of rules.allows rules.aad k.finding)) r.made.told
-            ∙ sym (folded_append rules.decided old.told (questions_of rules.allows rules.aad done) (asked_of rules.allows rules.aad k.finding));
-        noted = state ∙ r.made.state;
-        written = Appends-trans old.written new.written newer.written (output_of rules.allows rules.aad done) (written_of rules.allows rules.aad k.finding) r.made.written k.writes;
-        returned = refl;
-        stands = w.stop;
-        left = w.behind;
-        fault = tt;
-        shapes = f.shapes;
-      }, refl)
+      let w = left_after old newer (done ++ s ∷ []) f.taken f.steps (rest_of newer.left) (rest_known newer.left) in (
+        record {
+          input = w.input;
+          is = w.is;
+          run = record { done = done; ending = within s noting; rest = rest_of newer.left };
+          course = w.course;
+          ends_at = tt;
+          asked = k.tells ∙ ap (λ z. folded_over rules.decided z (asked_of rules.allows rules.aad k.finding)) r.made.told
+              ∙ sym (folded_append rules.decided old.told (questions_of rules.allows rules.aad done) (asked_of rules.allows rules.aad k.finding));
+          noted = state ∙ r.made.state;
+          written = Appends-trans old.written new.written newer.written (output_of rules.allows rules.aad done) (written_of rules.allows rules.aad k.finding) r.made.written k.writes;
+          returned = refl;
+          stands = w.stop;
+          left = w.behind;
+          fault = tt;
+          shapes = f.shapes;
+        },
+        refl,
+      )
 
   -- a step was made, if so many were counted
-  some_done : (old new : GateState T S) (passed refused : ℕ) (done : List Step) → Reached rules old new passed refused done → 0 < passed + refused → done ≢ []
+  pub some_done : (old new : GateState T S) (passed refused : ℕ) (done : List Step) → Reached rules old new passed refused done → 0 < passed + refused → done ≢ []
   some_done old new passed refused done r some none =
       let p : passed ≡ 0 = r.passed_is ∙ ap (passed_count rules.allows rules.aad) none in
       let q : refused ≡ 0 = r.refused_is ∙ ap (refused_count rules.allows rules.aad) none in

@@ -1,5 +1,5 @@
 -- What became of the next item, from its steps.
-use Rattle.std.proofs.Common.{◌≡◌, ◌≢◌, ◌⊎◌, inl, inr, ℕ, ◌+◌, ◌-◌, ◌<◌, ◌≤◌, List, [], ◌∷◌, length, Option, None, Some, Bool, cond, not, refl, sym, ap, subst, ◌∙◌, arith, length-append}
+use Rattle.std.proofs.Common.{◌≡◌, ◌≢◌, ◌⊎◌, inl, inr, ℕ, ◌+◌, ◌-◌, ◌<◌, ◌≤◌, List, [], ◌∷◌, ◌++◌, length, Option, None, Some, Bool, cond, not, refl, sym, ap, subst, ◌∙◌, arith, length-append}
 use Rattle.std.specs.Prelude.{Result, Ok, Err}
 use Rattle.ciborium_ll.specs.Reading.{Moves}
 use Rattle.ciborium_ll.specs.Seen.{Seen, Takes}
@@ -17,11 +17,10 @@ use Rattle.ciborium.specs.declared.frames.Front.TheVariants as front
 use Rattle.ciborium.proofs.FrontLemmas.{four_taken}
 use Rattle.ciborium.proofs.StringLemmas.{title_some}
 use Rattle.cose_gate_core.specs.Findings.{Bounds}
-use Rattle.cose_gate_core.specs.GateRun.{Ran}
 use Rattle.cose_gate_core.specs.Next.{Reached, RanSteps, IsReadFault, Passes, PassesNext}
 use Rattle.cose_gate_core.specs.Outcome.{Rules, GateState, IsFaultOf, IfTooLong}
 use Rattle.cose_gate_core.specs.Passing.{ItemRules, ItemSight, WentThrough, ItemFails, fault_by, stopped_by}
-use Rattle.cose_gate_core.specs.Run.{has_passed}
+use Rattle.cose_gate_core.specs.Run.{Step, has_passed}
 use Rattle.cose_gate_core.specs.Terms.{IsTakenFront}
 use Rattle.cose_gate_core.specs.declared.terms.Terms.{Terms}
 use Rattle.coset_labels.specs.Limits.{nesting_of}

@@ -141,15 +141,16 @@ module _ (limits : Bounds) (keys : List KeyFields) (aad : List ℕ) where
           → (n n' : ℕ) (rest : Option (List ℕ)) → rest ≡ new.left → new.written ≡ None → n' ≡ n + reader_failures is_end r → w.failed out' ≡ w.failed out' + writer_failures r
           → AskedItems w limits keys aad (devices w left n out) (devices w rest n' out') out out' r (tells t teller teller')
       at_end new r ran n n' rest same none reads writes = (
-          record {
-            run = ran.0.run;
-            shows = shown by come.first new n n' (w.failed out) (w.failed out') r _ _ come.start (same_devices _ _ _ _ _ _ _ _ (sym come.there) (sym come.nothing) refl refl)
-                (same_devices _ _ _ _ _ _ _ _ same (sym none) refl refl) ran.0 reads (let e = come.failed in omega (arith, fails, e));
-            asked = tt;
-            told = subst (λ (ss : List Step). tells t teller teller' (items_of ss)) (sym ran.1) come.told;
-            result_is = ran.0.returned;
-          },
-          handed_all w out out' _ ran.0.run.ending (subst (λ (ss : List Step). Appends (w.written out) (w.written out') (blocks_of keys aad ss)) (sym ran.1) come.written))
+        record {
+          run = ran.0.run;
+          shows = shown by come.first new n n' (w.failed out) (w.failed out') r _ _ come.start (same_devices _ _ _ _ _ _ _ _ (sym come.there) (sym come.nothing) refl refl)
+              (same_devices _ _ _ _ _ _ _ _ same (sym none) refl refl) ran.0 reads (let e = come.failed in omega (arith, fails, e));
+          asked = tt;
+          told = subst (λ (ss : List Step). tells t teller teller' (items_of ss)) (sym ran.1) come.told;
+          result_is = ran.0.returned;
+        },
+        handed_all w out out' _ ran.0.run.ending (subst (λ (ss : List Step). Appends (w.written out) (w.written out') (blocks_of keys aad ss)) (sym ran.1) come.written),
+      )
 
       -- one step more, and what was told of its questions
       module _ (new : GateState Asked Entry) (passed' refused' : ℕ) (far : (s : Step) × Reached by come.first new passed' refused' (come.done ++ s ∷ [])) where
@@ -160,8 +161,8 @@ module _ (limits : Bounds) (keys : List KeyFields) (aad : List ℕ) where
         told_about same =
             let first = come.first in
             let all : new.told ≡ folded_over decided now.told asked =
-                far.1.made.told ∙ ap (folded_over decided first.told) (questions_then by come.done far.0)
-                ∙ (folded_append decided first.told (questions_of by.allows by.aad come.done) asked ∙ ap (λ (z : Asked). folded_over decided z asked) (sym come.reached.made.told)) in
+            far.1.made.told ∙ ap (folded_over decided first.told) (questions_then by come.done far.0)
+            ∙ (folded_append decided first.told (questions_of by.allows by.aad come.done) asked ∙ ap (λ (z : Asked). folded_over decided z asked) (sym come.reached.made.told)) in
             ap (λ (z : Asked). z.told) (all ∙ decided_all now.told asked) ∙ ap (λ (ks : List KeyFields). now.told.told ++ map (part_of ks) asked) same
 
         last_is : new.state ≡ far.0.entry
@@ -172,7 +173,7 @@ module _ (limits : Bounds) (keys : List KeyFields) (aad : List ℕ) where
             let moved = far.1.taken in
             let g = moved.grown in
             let h = sequence_end limits.nesting come.first.offset moved.bytes (map (λ s. s.item) come.done) far.0.item
-                (subst (λ (is : List Item). SequenceWithin limits.nesting come.first.offset moved.bytes is []) (map-append (λ (s : Step). s.item) come.done (far.0 ∷ [])) moved.has) in
+            (subst (λ (is : List Item). SequenceWithin limits.nesting come.first.offset moved.bytes is []) (map-append (λ (s : Step). s.item) come.done (far.0 ∷ [])) moved.has) in
             omega arith
 
         block_is : (end : ℕ) → end ≡ new.offset → block_by new.state end (map (part_of keys) asked) ≡ block_at keys aad far.0
@@ -196,7 +197,7 @@ module _ (limits : Bounds) (keys : List KeyFields) (aad : List ℕ) where
         told_then : (teller'' : T) → tells t teller' teller'' (notice.Item far.0.entry ∷ []) → tells t teller teller'' (items_of (come.done ++ far.0 ∷ []))
         told_then teller'' told =
             let all : items_of (come.done ++ far.0 ∷ []) ≡ items_of come.done ++ notice.Item far.0.entry ∷ [] =
-                ap (map (λ (e : Entry). notice.Item e)) (entries_then by come.done far.0) ∙ map-append (λ (e : Entry). notice.Item e) (entries_of come.done) (far.0.entry ∷ []) in
+            ap (map (λ (e : Entry). notice.Item e)) (entries_then by come.done far.0) ∙ map-append (λ (e : Entry). notice.Item e) (entries_of come.done) (far.0.entry ∷ []) in
             subst (λ (ns : List Notice). tells t teller teller'' ns) (sym all)
             (tells_then t.folded (t.state teller) (t.state teller') (t.state teller'') (items_of come.done) (notice.Item far.0.entry) come.told told)
 
@@ -242,8 +243,7 @@ module _ (limits : Bounds) (keys : List KeyFields) (aad : List ℕ) where
               → AskedItems w limits keys aad (devices w left n out) (devices w rest n' out'') out out'' (Err fault) (tells t teller teller'')
           not_handed out'' teller'' (Decode e) h = absurd h
           not_handed out'' teller'' Write h =
-              let ran = answer_unflushed by is_end true come.first new passed' refused' (come.done ++ far.0 ∷ []) refl some far.1 in
-              (
+              let ran = answer_unflushed by is_end true come.first new passed' refused' (come.done ++ far.0 ∷ []) refl some far.1 in (
                 record {
                   run = ran.0.run;
                   shows = shown by come.first new n n' (w.failed out) (w.failed out'') (Err Write) _ _ come.start (same_devices _ _ _ _ _ _ _ _ (sym come.there) (sym come.nothing) refl refl)
@@ -253,17 +253,19 @@ module _ (limits : Bounds) (keys : List KeyFields) (aad : List ℕ) where
                   result_is = refl;
                 },
                 subst (λ (z : List ℕ). AppendsFront (w.written out) (w.written out'') z) (sym blocks_then)
-                (front_of_second _ _ _ (blocks_of keys aad come.done) (block_at keys aad far.0) come.written h.1))
+                    (front_of_second _ _ _ (blocks_of keys aad come.done) (block_at keys aad far.0) come.written h.1),
+              )
           not_handed out'' teller'' Memory h = (
-              record {
-                run = undone.run;
-                shows = shown by come.first _ n n' (w.failed out) (w.failed out'') (Err Memory) _ _ come.start (same_devices _ _ _ _ _ _ _ _ (sym come.there) (sym come.nothing) refl refl)
-                    (same_devices _ _ _ _ _ _ _ _ same (sym none) refl refl) undone (omega arith) (let e = ap w.failed h.0 in let f = come.failed in omega arith);
-                asked = tt;
-                told = subst (λ (z : T). tells t teller z (items_of come.done)) (sym h.1) come.told;
-                result_is = refl;
-              },
-              subst (λ (z : W). Appends (w.written out) (w.written z) (blocks_of keys aad come.done)) (sym h.0) come.written)
+            record {
+              run = undone.run;
+              shows = shown by come.first _ n n' (w.failed out) (w.failed out'') (Err Memory) _ _ come.start (same_devices _ _ _ _ _ _ _ _ (sym come.there) (sym come.nothing) refl refl)
+                  (same_devices _ _ _ _ _ _ _ _ same (sym none) refl refl) undone (omega arith) (let e = ap w.failed h.0 in let f = come.failed in omega arith);
+              asked = tt;
+              told = subst (λ (z : T). tells t teller z (items_of come.done)) (sym h.1) come.told;
+              result_is = refl;
+            },
+            subst (λ (z : W). Appends (w.written out) (w.written z) (blocks_of keys aad come.done)) (sym h.0) come.written,
+          )
 
 -- the run after a flush, and the last notice
 pub told_end : {W F T X G : Type 0} (w : Writes W F) (t : Tells T) (limits : Bounds) (keys : List KeyFields) (aad : List ℕ) (old mid new : Devices) (out out' out'' : W) (teller teller' teller'' : T)
@@ -273,7 +275,7 @@ pub told_end : {W F T X G : Type 0} (w : Writes W F) (t : Tells T) (limits : Bou
     → RanAsking w limits keys aad old new out out'' status (tells t teller teller'')
 told_end w t limits keys aad old mid new out out' out'' teller teller' teller'' asked answer handed last status items left kept reads failed keeps is_handed is told is_status =
     let gated = items.0 in
-    let shows = then_flushed answer limits (asks keys) aad old mid new gated.run gated.shows left kept reads failed in
-    (
+    let shows = then_flushed answer limits (asks keys) aad old mid new gated.run gated.shows left kept reads failed in (
       ran_told t.folded (t.state teller) (t.state teller') (t.state teller'') asked (is_ok answer) handed last gated.run shows tt gated.told gated.result_is is_handed is told is_status,
-      handed_flushed w out out' out'' (blocks_of keys aad gated.run.done) gated.run.ending keeps items.1)
+      handed_flushed w out out' out'' (blocks_of keys aad gated.run.done) gated.run.ending keeps items.1,
+    )

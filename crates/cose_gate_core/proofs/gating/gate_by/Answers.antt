@@ -1,4 +1,4 @@
-use Rattle.std.proofs.Common.{[], true, refl, ◌∙◌, arith, rules}
+use Rattle.std.proofs.Common.{◌+◌, ◌<◌, [], true, refl, ◌∙◌, arith, rules}
 use Rattle.cose_gate_core.proofs.InOrder.{err_is}
 use Rattle.cose_gate_core.proofs.Reach.{reached_start}
 use Rattle.cose_gate_core.proofs.Outcomes.{answer_unflushed, reached_flushed}
@@ -46,9 +46,10 @@ returns-in_err-hand_over-clause-ran g c =
     let inv = c.items.invariant in
     let next = c.in_ok-next.ensures in
     let more = rw c.in-Some.is at next.more in
+    let some : 0 < c.in-Some.next.passed + c.in-Some.next.refused = omega (arith, more.1) in
     let ran = rw c.in-Some.is at next.ran in
     let step = rw inv.who at ran in
     let over = c.in_err-hand_over.ensures in
     let far = step true _ _ inv.reached.1 in
     rw (err_is _ _ c.from_residual-in_err-hand_over.ensures.1, over.stops.0)
-    (answer_unflushed _ _ c.args.live _ _ _ _ _ over.stops.1 (omega arith) (reached_flushed _ _ _ _ _ _ _ far.1 refl over.noted over.written refl refl)).0
+    (answer_unflushed _ _ c.args.live _ _ _ _ _ over.stops.1 some (reached_flushed _ _ _ _ _ _ _ far.1 refl over.noted over.written refl refl)).0

@@ -41,7 +41,7 @@ items-preserved g c =
     let come = asked_same _ _ _ g.W.Write g.T.Teller _ _ _ _ _ _ _ _ _ _ _ _ c.next_item.ensures.told inv.come in
     let far = goes_on _ _ _ _ _ _ _ _ who (rw c.in-Some.is at next.ran) true come.first come.done come.reached in
     let handed = block_handed _ _ _ g.W.Write g.T.Teller _ _ _ _ _ _ _ _ come _ _ _ far _ _ _ _ _ who
-        (ap (λ (z : Item). z.before) (next.who ∙ c.next_item.ensures.item) ∙ ap (λ (z : Asked). z.told) (sym c.next_item.ensures.told)) c.offset.ensures c.in_ok-ask_item.ensures.handed in
+    (ap (λ (z : Item). z.before) (next.who ∙ c.next_item.ensures.item) ∙ ap (λ (z : Asked). z.told) (sym c.next_item.ensures.told)) c.offset.ensures c.in_ok-ask_item.ensures.handed in
     record {
       who = ap (λ (z : Item). z.keys) next.who ∙ who;
       reader = search rules;
@@ -87,6 +87,6 @@ returns-in_err-ask_item-clause-ran g c =
     let come = asked_same _ _ _ g.W.Write g.T.Teller _ _ _ _ _ _ _ _ _ _ _ _ c.next_item.ensures.told inv.come in
     let far = goes_on _ _ _ _ _ _ _ _ who (rw c.in-Some.is at next.ran) true come.first come.done come.reached in
     let handed = block_handed _ _ _ g.W.Write g.T.Teller _ _ _ _ _ _ _ _ come _ _ _ far _ _ _ _ _ who
-        (ap (λ (z : Item). z.before) (next.who ∙ c.next_item.ensures.item) ∙ ap (λ (z : Asked). z.told) (sym c.next_item.ensures.told)) c.offset.ensures c.in_err-ask_item.ensures.handed in
+    (ap (λ (z : Item). z.before) (next.who ∙ c.next_item.ensures.item) ∙ ap (λ (z : Asked). z.told) (sym c.next_item.ensures.told)) c.offset.ensures c.in_err-ask_item.ensures.handed in
     rw (err_is _ _ c.from_residual-in_err-ask_item.ensures.1)
     (not_handed _ _ _ g.W.Write g.T.Teller _ _ _ _ _ _ _ _ come _ _ _ far _ _ _ (sym (no_title _ _ _ refl next.fresh)) refl (search rules) (omega arith) _ _ _ handed)
