@@ -34,6 +34,7 @@ why_line usage unrun.Usage = usage
 why_line usage unrun.NotHex = codes "aad: not hex\n"
 why_line usage unrun.NoFile = codes "accepted: cannot be read\n"
 why_line usage unrun.NoRecords = codes "accepted: no records\n"
+why_line usage unrun.NoDigests = codes "accepted: no digests\n"
 why_line usage (unrun.LineNotHex number) = line_fault number (codes ": not hex\n")
 why_line usage (unrun.LineNoRecord number) = line_fault number (codes ": no record\n")
 why_line usage unrun.Memory = codes "stopped: memory\n"

@@ -146,6 +146,7 @@ fn write_why<E: Write>(why: NotRun, usage: &str, err: &mut E)
         NotRun::NotHex => write("aad: not hex\n", err),
         NotRun::NoFile => write("accepted: cannot be read\n", err),
         NotRun::NoRecords => write("accepted: no records\n", err),
+        NotRun::NoDigests => write("accepted: no digests\n", err),
         NotRun::LineNotHex(number) => write_line_fault(number, ": not hex\n", err),
         NotRun::LineNoRecord(number) => write_line_fault(number, ": no record\n", err),
         NotRun::Memory => write("stopped: memory\n", err),
