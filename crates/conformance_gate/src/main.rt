@@ -4,6 +4,7 @@
 #![tactic(auto)]
 
 mod asking;
+mod blocks;
 mod buffers;
 mod calls;
 mod checking;

@@ -14,7 +14,7 @@ pub told_all : (told : List ℕ) (qs : List Question) → folded_over (λ t q. t
 told_all told [] = sym (append-nil told)
 told_all told (q ∷ qs) = told_all (told ++ record_of q) qs ∙ append_assoc told (record_of q) (flat_map record_of qs)
 
-any_now : (k : List ℕ) (keys : List (Bor (List ℕ))) → list_any (λ key. bytes_eq key.now k) keys ≡ list_any (λ key. bytes_eq key k) (map (λ key. key.now) keys)
+pub any_now : (k : List ℕ) (keys : List (Bor (List ℕ))) → list_any (λ key. bytes_eq key.now k) keys ≡ list_any (λ key. bytes_eq key k) (map (λ key. key.now) keys)
 any_now k [] = refl
 any_now k (x ∷ xs) = ap (λ (b : Bool). bytes_eq x.now k || b) (any_now k xs)
 

@@ -1,5 +1,6 @@
 pub mod Asked
 pub mod Frames
+pub mod Hashed
 pub mod Keys
 pub mod Order
 pub mod Put

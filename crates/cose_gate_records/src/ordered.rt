@@ -45,8 +45,8 @@ impl<'a> Ordered<'a> {
     pub(crate) fn has(&self, key: &[u8]) -> bool
         ensures { result ≡ list_any (λ place. bytes_eq place.now key.now) self.now.received.items }
     {
-        let places = self.places.as_slice();
-        places.binary_search_by(|place| (*place).cmp(key)).is_ok()
+        let sorted = self.places.as_slice();
+        sorted.binary_search_by(|place| (*place).cmp(key)).is_ok()
     }
 }
 

@@ -1,2 +1,6 @@
-mod Decided
-mod Running
+pub mod Asks
+pub mod Decided
+pub mod Keeping
+pub mod Placed
+pub mod Runs
+pub mod Shared

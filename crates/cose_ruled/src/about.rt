@@ -1,5 +1,7 @@
 //! What a question is about, as its block says it.
-ghost use Rattle.std.specs.Prelude.{◌≡◌, IfOk, flat_map, map};
+ghost use Rattle.std.specs.Prelude.{◌≡◌, ◌++◌, [], ◌∷◌, IfOk, OnOk, flat_map, map, if◌then◌else◌};
+ghost use Rattle.std.specs.Int.{w64, cast_unsigned};
+ghost use Rattle.cose_rules.specs.Keys.{fits as spec_fits};
 ghost use Rattle.coset_keys.specs.View.{key_view};
 ghost use Rattle.cose_gate_core.specs.Lent.{subject_of};
 ghost use Rattle.cose_gate_records.specs.Framing.{eight};
@@ -13,6 +15,24 @@ use cose_rules::{Refusal, Ruling, Scheme, fits};
 use coset_keys::CoseKey;
 use std::alloc::{AllocError, Global};
 
+/// Appends the place of a key, if it is a candidate.
+fn append_place(
+    places: &mut Vec<u8>,
+    place: usize,
+    key: &CoseKey,
+    scheme: Scheme,
+    id: &[u8],
+) -> Result<(), AllocError>
+    ensures { OnOk result (places.new.items ≡ places.old.items
+        ++ flat_map eight (if spec_fits scheme id.now (key_view key.now) then place ∷ [] else [])) }
+{
+    if fits(key, scheme, id) {
+        places.extend_from_slice(&eight(place))
+    } else {
+        Ok(())
+    }
+}
+
 /// The places of the candidates, eight bytes each.
 fn places(alloc: Global, keys: &[CoseKey], scheme: Scheme, id: &[u8]) -> Result<Vec<u8>, AllocError>
     ensures { IfOk result (λ places. places.items
@@ -20,11 +40,16 @@ fn places(alloc: Global, keys: &[CoseKey], scheme: Scheme, id: &[u8]) -> Result<
 {
     let mut places = Vec::new(alloc);
     for (place, key) in keys.iter().enumerate() {
-        if fits(key, scheme, id) {
-            places.extend_from_slice(&eight(place))?;
-        }
+        append_place(&mut places, place, key, scheme, id)?;
     }
     Ok(places)
+}
+
+/// A number in eight bytes, in two's complement, the lowest first.
+fn signed(number: i64) -> [u8; 8]
+    ensures { result ≡ eight (cast_unsigned w64 number) }
+{
+    number.to_le_bytes()
 }
 
 /// What a question is about that is asked by this scheme, under the keys at these places.
@@ -38,7 +63,7 @@ fn text_of(
 {
     let mut text = Vec::new(alloc);
     text.extend_from_slice(&eight(kind.tag() as usize))?;
-    text.extend_from_slice(&scheme.number.to_le_bytes())?;
+    text.extend_from_slice(&signed(scheme.number))?;
     append(&mut text, places)?;
     Ok(text)
 }

@@ -1,10 +1,10 @@
 //! What is kept of the questions about an item.
-ghost use Rattle.std.specs.Prelude.{◌≡◌, ◌++◌, [], ◌∷◌, IfOk, OnOk, Bool, length, flat_map};
+ghost use Rattle.std.specs.Prelude.{◌≡◌, ◌++◌, [], ◌∷◌, IfOk, OnOk, flat_map, map};
 ghost use Rattle.std.specs.Option.{unwrap_or};
 ghost use Rattle.cose_rules.specs.RefusalTexts.{refusal_text};
-ghost use Rattle.cose_gate_records.specs.Framing.{eight, framed};
+ghost use Rattle.cose_gate_records.specs.Framing.{framed};
 ghost use Rattle.cose_ruled.specs.Blocks as spec;
-ghost use Rattle.cose_ruled.specs.Told.{bytes_in, part_view, parts_in};
+ghost use Rattle.cose_ruled.specs.Told.{AreKept, AreKept-prop, bytes_in, part_view, parts_in};
 
 use crate::beside::append_beside;
 use crate::told::{Question, Told};
@@ -15,22 +15,17 @@ use cose_rules::Refusal;
 use std::alloc::{AllocError, Global};
 
 /// What the block of the item takes from its questions: that of the questions that the rules allow,
-/// of all but the first without what is as in the first; and how many there were.
+/// of all but the first without what is as in the first.
 #[derive(Drop)]
 pub(crate) struct Kept {
     /// The covered bytes of the first question, if there is one.
     base: Option<Vec<u8>>,
     why: Vec<u8>,
-    texts: Vec<u8>,
-    /// As many as there were, without what doesn't fit.
-    count: usize,
+    texts: Vec<Vec<u8>>,
     /// What was told. It is in contracts alone.
     told: Log<Told>,
-    ghost based: { bytes_in base ≡ spec.first_covered (parts_in told) },
-    ghost why_is: { why.items ≡ flat_map spec.why_text (parts_in told) },
-    ghost texts_are: { texts.items
-        ≡ flat_map (spec.question_text (spec.base_of (parts_in told))) (parts_in told) },
-    ghost counted: { eight count ≡ eight (length (parts_in told)) },
+    ghost kept: { AreKept (bytes_in base) why.items (map (λ v. v.items) texts.items)
+        (parts_in told) } by { AreKept-prop _ _ _ _ },
 }
 
 /// The same, or, once memory ran out, what was told, which only proofs read.
@@ -40,45 +35,94 @@ pub(crate) enum Questions {
     Lost(Log<Told>),
 }
 
-/// The covered bytes of the first question, if this is the first.
-fn based(base: Option<Vec<u8>>, alloc: Global, covered: &[u8]) -> Result<Vec<u8>, AllocError>
+/// The covered bytes of the first question, which are these if there was none.
+fn base_with(base: Option<Vec<u8>>, alloc: Global, covered: &[u8]) -> Result<Vec<u8>, AllocError>
     ensures { IfOk result (λ b. b.items ≡ unwrap_or (bytes_in base) covered.now) }
 {
     match base {
         Some(base) => Ok(base),
-        None => {
-            let mut base = Vec::new(alloc);
-            base.extend_from_slice(covered)?;
-            Ok(base)
-        }
+        None => copy(alloc, covered),
     }
 }
 
-/// Appends what is written of a question that the rules allow.
-fn append_text(
-    texts: &mut Vec<u8>,
+fn copy(alloc: Global, bytes: &[u8]) -> Result<Vec<u8>, AllocError>
+    ensures { IfOk result (λ copy. copy.items ≡ bytes.now) }
+{
+    let mut copy = Vec::new(alloc);
+    copy.extend_from_slice(bytes)?;
+    Ok(copy)
+}
+
+/// What is written of a question that is about this, without its length.
+fn shown(
+    alloc: Global,
     base: &[u8],
     about: &[u8],
     question: Question<'_>,
-) -> Result<(), AllocError>
-    ensures { OnOk result (texts.new.items ≡ texts.old.items ++ spec.question_text base.now
-        (spec.shown about.now question.entry.covered.now
-        (framed question.entry.signature.now ++ question.entry.digest))) }
+) -> Result<Vec<u8>, AllocError>
+    ensures { IfOk result (λ text. text.items
+        ≡ about.now ++ (spec.beside base.now question.entry.covered.now
+        ++ (framed question.entry.signature.now ++ question.entry.digest))) }
 {
-    let mut text = Vec::new(*texts.allocator());
+    let mut text = Vec::new(alloc);
     text.extend_from_slice(about)?;
     append_beside(&mut text, base, question.covered)?;
     append(&mut text, question.signature)?;
     text.extend_from_slice(&question.digest)?;
-    append(texts, &text)
+    Ok(text)
+}
+
+/// The bytes after their length.
+fn after_length(alloc: Global, bytes: &[u8]) -> Result<Vec<u8>, AllocError>
+    ensures { IfOk result (λ text. text.items ≡ framed bytes.now) }
+{
+    let mut text = Vec::new(alloc);
+    append(&mut text, bytes)?;
+    Ok(text)
+}
+
+/// What is written of a question; nothing if the rules refuse it.
+fn question_text(alloc: Global, base: &[u8], question: Question<'_>) -> Result<Vec<u8>, AllocError>
+    ensures { IfOk result (λ text. text.items
+        ≡ spec.question_text base.now (part_view question.entry)) }
+{
+    match question.about {
+        Ok(about) => {
+            let text = shown(alloc, base, about, question)?;
+            after_length(alloc, &text)
+        }
+        Err(_) => Ok(Vec::new(alloc)),
+    }
 }
 
 /// Appends why the rules refuse a question.
-fn append_why(why: &mut Vec<u8>, refusal: Refusal) -> Result<(), AllocError>
+fn append_refusal(why: &mut Vec<u8>, refusal: Refusal) -> Result<(), AllocError>
     ensures { OnOk result (why.new.items ≡ why.old.items ++ refusal_text refusal) }
 {
     let text = format!(in *why.allocator(); "{refusal}")?;
     why.extend_from_slice(text.as_bytes())
+}
+
+/// Appends why the rules refuse a question, if they do.
+fn append_why(why: &mut Vec<u8>, question: Question<'_>) -> Result<(), AllocError>
+    ensures { OnOk result (why.new.items
+        ≡ why.old.items ++ spec.why_text (part_view question.entry)) }
+{
+    match question.about {
+        Ok(_) => Ok(()),
+        Err(refusal) => append_refusal(why, *refusal),
+    }
+}
+
+/// Appends these texts, one after another.
+fn append_all(text: &mut Vec<u8>, texts: &[Vec<u8>]) -> Result<(), AllocError>
+    ensures { OnOk result («text».new.items
+        ≡ «text».old.items ++ flat_map (λ v. v.items) texts.now) }
+{
+    for piece in texts {
+        text.extend_from_slice(piece)?;
+    }
+    Ok(())
 }
 
 /// The verdict in words.
@@ -106,60 +150,8 @@ impl Kept {
             base: None,
             why: Vec::new(alloc),
             texts: Vec::new(alloc),
-            count: 0,
             told: Log::new(),
         }
-    }
-
-    /// The same with a question that the rules allow, which is about this.
-    fn and_shown(self, about: &[u8], question: Question<'_>) -> Result<Kept, AllocError>
-        requires { part_view question ≡ spec.shown about.now question.covered.now
-            (framed question.signature.now ++ question.digest) }
-        ensures { IfOk result (λ kept. parts_in kept.told
-            ≡ parts_in self.told ++ part_view question.entry ∷ []) }
-    {
-        let Kept {
-            base,
-            why,
-            texts,
-            count,
-            told,
-        } = self;
-        let mut texts = texts;
-        let base = based(base, *texts.allocator(), question.covered)?;
-        append_text(&mut texts, &base, about, question)?;
-        Ok(Kept {
-            base: Some(base),
-            why,
-            texts,
-            count: count.wrapping_add(1),
-            told: told.and(&Told::new(question)),
-        })
-    }
-
-    /// The same with a question that the rules refuse.
-    fn and_refused(self, refusal: Refusal, question: Question<'_>) -> Result<Kept, AllocError>
-        requires { part_view question ≡ spec.refused refusal }
-        ensures { IfOk result (λ kept. parts_in kept.told
-            ≡ parts_in self.told ++ part_view question.entry ∷ []) }
-    {
-        let Kept {
-            base,
-            why,
-            texts,
-            count,
-            told,
-        } = self;
-        let mut why = why;
-        let base = based(base, *texts.allocator(), &[])?;
-        append_why(&mut why, refusal)?;
-        Ok(Kept {
-            base: Some(base),
-            why,
-            texts,
-            count: count.wrapping_add(1),
-            told: told.and(&Told::new(question)),
-        })
     }
 
     /// The same with a question.
@@ -167,10 +159,24 @@ impl Kept {
         ensures { IfOk result (λ kept. parts_in kept.told
             ≡ parts_in self.told ++ part_view question.entry ∷ []) }
     {
-        match question.about {
-            Ok(about) => self.and_shown(about, question),
-            Err(refusal) => self.and_refused(*refusal, question),
-        }
+        let Kept {
+            base,
+            why,
+            texts,
+            told,
+        } = self;
+        let (mut why, mut texts) = (why, texts);
+        let alloc = *why.allocator();
+        let base = base_with(base, alloc, question.shown())?;
+        append_why(&mut why, question)?;
+        let text = question_text(alloc, &base, question)?;
+        texts.push(text)?;
+        Ok(Kept {
+            base: Some(base),
+            why,
+            texts,
+            told: told.and(&Told::new(question)),
+        })
     }
 
     /// The covered bytes of the first question.
@@ -191,7 +197,7 @@ impl Kept {
         match verdict {
             Verdict::Passed => {
                 append(text, self.base())?;
-                text.extend_from_slice(&self.texts)
+                append_all(text, &self.texts)
             }
             Verdict::Refused(_) => append(text, &[]),
         }
@@ -206,7 +212,7 @@ impl Kept {
         text.extend_from_slice(&eight(entry.number))?;
         text.extend_from_slice(&eight(entry.offset))?;
         text.extend_from_slice(&eight(end))?;
-        text.extend_from_slice(&eight(self.count))?;
+        text.extend_from_slice(&eight(self.texts.len()))?;
         append_verdict(&mut text, entry.verdict)?;
         append(&mut text, &self.why)?;
         self.append_body(&mut text, entry.verdict)?;
@@ -219,9 +225,7 @@ impl Kept {
             ≡ spec.block_by entry.now end (parts_in self.now.told)) }
     {
         let text = self.text(alloc, entry, end)?;
-        let mut block = Vec::new(alloc);
-        append(&mut block, &text)?;
-        Ok(block)
+        after_length(alloc, &text)
     }
 }
 

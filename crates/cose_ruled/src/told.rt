@@ -1,5 +1,7 @@
 //! What is told of a question.
-ghost use Rattle.std.specs.Prelude.{◌≡◌};
+ghost use Rattle.std.specs.Prelude.{◌≡◌, ◌++◌};
+ghost use Rattle.cose_gate_records.specs.Framing.{framed};
+ghost use Rattle.cose_ruled.specs.Blocks.{covered_in};
 ghost use Rattle.cose_ruled.specs.Told.{part_in, part_view};
 
 use ciborium_ll::log::Log;
@@ -14,6 +16,18 @@ pub(crate) struct Question<'a> {
     pub covered: &'a [u8],
     pub signature: &'a [u8],
     pub digest: [u8; 32],
+}
+
+impl<'a> Question<'a> {
+    /// The covered bytes, if the rules allow the question.
+    pub(crate) fn shown(&self) -> &'a [u8]
+        ensures { result.now ≡ covered_in (part_view self.now) }
+    {
+        match self.about {
+            Ok(_) => self.covered,
+            Err(_) => &[],
+        }
+    }
 }
 
 /// What is told of a question: what it is about, the covered bytes, and signature and digest; or why

@@ -1,6 +1,6 @@
 use Rattle.std.proofs.Common.{refl, ◌∙◌}
 use Rattle.cose_gate_core.proofs.InOrder.{err_is}
-use Rattle.cose_ruled.proofs.Running.{block_sent, block_torn}
+use Rattle.cose_ruled.proofs.Runs.{block_sent, block_torn}
 use Rattle.cose_ruled.proofs.running.ask_item.Goals as goal
 
 pub returns-in_err-block-clause-handed : goal.returns-in_err-block-clause-handed

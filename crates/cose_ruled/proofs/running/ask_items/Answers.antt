@@ -4,7 +4,7 @@ use Rattle.cose_gate_core.proofs.InOrder.{err_is}
 use Rattle.cose_gate_core.proofs.Reach.{reached_start}
 use Rattle.cose_gate_program.proofs.Runs.{no_title}
 use Rattle.cose_ruled.specs.Blocks.{Asked, Item}
-use Rattle.cose_ruled.proofs.Running.{asked_same, at_end, block_handed, come_next, goes_on, not_handed}
+use Rattle.cose_ruled.proofs.Runs.{asked_same, at_end, block_handed, come_next, goes_on, not_handed}
 use Rattle.cose_ruled.proofs.running.ask_items.Goals as goal
 
 pub items-init : goal.items-init
