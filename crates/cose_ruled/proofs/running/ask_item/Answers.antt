@@ -11,7 +11,7 @@ returns-in-Ok-clause-handed g c = λ ps is.
     block_sent g.W.Write g.T.Teller _ _ _ _ _ _ _ _ _ _ c.in-Ok.is c.write_block-handed.ensures.ok c.write_block-handed.ensures.failed
     (c.deref.ensures.value ∙ c.in_ok-block.ensures ps is) c.tell.ensures c.rest.ensures
 
-pub returns-in-Err-clause-handed : goal.returns-in-Err-clause-handed
-returns-in-Err-clause-handed g c = λ ps is.
+pub returns-clause-handed : goal.returns-clause-handed
+returns-clause-handed g c = λ ps is.
     block_torn g.W.Write g.T.Teller _ _ _ _ _ _ _ _ _ c.in-Err.is c.write_block-handed.ensures.err c.write_block-handed.ensures.failed
     (c.deref.ensures.value ∙ c.in_ok-block.ensures ps is) c.tell.ensures
