@@ -24,7 +24,7 @@ kept_after base why texts [] p b held is =
       (
         whys_more [] p why held.1.0,
         ap (λ (z : List (List ℕ)). z ++ question_text b p ∷ []) held.1.1
-            ∙ ap (λ (z : List ℕ). ◌∷◌ {A = List ℕ} (question_text z p) []) e,
+            ∙ ap (λ (z : List ℕ). let only : List (List ℕ) = question_text z p ∷ [] in only) e,
       ),
     )
 kept_after base why texts (q ∷ qs) p b held is =
