@@ -1,12 +1,12 @@
 -- What is kept of questions, question by question.
-use Rattle.std.proofs.Common.{◌≡◌, ℕ, List, [], ◌∷◌, ◌++◌, map, flat_map, Option, Some, None, refl, sym, ap, subst, ◌∙◌, append_assoc}
+use Rattle.std.proofs.Common.{◌≡◌, ℕ, List, [], ◌∷◌, ◌++◌, map, flat_map, Option, Some, sym, ap, subst, ◌∙◌, append_assoc}
 use Rattle.std.specs.Global.{Vec}
 use Rattle.std.specs.Option.{unwrap_or}
 use Rattle.std.proofs.lemmas.List.{append-nil, map-append}
 use Rattle.std.proofs.lemmas.Grind.{flat_map-append}
 use Rattle.std.proofs.lemmas.List.Folds.{flat_map-map}
 use Rattle.cose_gate_records.specs.Framing.{framed}
-use Rattle.cose_ruled.specs.Blocks.{Part, covered_in, first_covered, base_of, question_text, why_text}
+use Rattle.cose_ruled.specs.Blocks.{Part, covered_in, base_of, question_text, why_text}
 use Rattle.cose_ruled.specs.Told.{AreKept, part_in}
 use Rattle.cose_ruled.specs.declared.told.Told.{Told}
 
