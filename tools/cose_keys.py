@@ -434,8 +434,9 @@ class KeySet:
 
 
 def public_entries(key):
-    """The entries of a COSE_Key without key id and private half. An algorithm that isn't known here is a text, which no rule takes."""
-    entries = to_cose(replace(key, kid=None, private=None))
+    """The entries of a COSE_Key without key id and private half, and with zeros for a secret, of which the rules ask that it is there. An
+    algorithm that isn't known here is a text, which no rule takes."""
+    entries = to_cose(replace(key, kid=None, private=None, secret=key.secret and bytes(len(key.secret))))
     return entries if key.alg is None or key.alg in BY_NUMBER else {**entries, 3: show(key.alg)}
 
 

@@ -237,6 +237,17 @@ class Tools(unittest.TestCase):
             ("Judged", "for another algorithm \\(HS256, .*: oct for HS256/64 in macs", mac0({1: 5}, {4: b"w"})),
         ], good=good, keys=keys)
 
+    def test_no_secret_goes_to_cose_ask(self):
+        made, scalar = tempfile.mkdtemp(dir=self.folder), P256.private_numbers().private_value.to_bytes(32, "big")
+        with open(os.path.join(made, "cose-ask"), "w", opener=lambda path, flags: os.open(path, flags, 0o755)) as file:
+            file.write(f'#!/bin/sh\ncat "$2" >> {made}/keys\nexec {shutil.which("cose-ask")} "$@"\n')
+        keys = self.put("secrets", cbor2.dumps([{1: 4, 2: b"m", -1: SECRET}, {**to_cose(P256, b"dev1"), -4: scalar}]))
+        data = GOOD + mac0({1: 5}, {4: b"m"})
+        done = subprocess.run([VERIFY, "--keys", keys], input=data, capture_output=True, env={**os.environ, "PATH": made + ":" + os.environ["PATH"]})
+        self.assertEqual((done.stdout, done.returncode), (data, 0), done.stderr)
+        with open(os.path.join(made, "keys"), "rb") as file:
+            self.assertEqual(cbor2.load(file), [{1: 4, 2: b"m", -1: bytes(len(SECRET))}, to_cose(P256, b"dev1")])
+
     def test_one_pem_is_for_every_key_id(self):
         alone = self.put("alone.pem", pem(P256))
         self.passes(GOOD + sign1({1: -7}, {}) + sign1({1: -7}, {4: b"else"}), keys=alone)
