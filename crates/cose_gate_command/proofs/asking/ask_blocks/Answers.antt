@@ -6,7 +6,7 @@ use Rattle.cose_gate_command.proofs.asking.ask_blocks.Goals as goal
 pub returns-clause-ran : goal.returns-clause-ran
 returns-clause-ran g c =
     let ending = c.ask_ruled-status.new.teller in
-    let r = c.ask_ruled-status.ensures.ran in
+    let r = rw c.as_slice.ensures.value at c.ask_ruled-status.ensures.ran in
     let kept = writer_kept _ _ r.0 in
     let name : ending.out.ghost_name ≡ _ = kept.0 ∙ c.new-ending.ensures.kept in
     let place : ending.last.ghost_name ≡ _ = kept.1 ∙ c.new-ending.ensures.place in (
