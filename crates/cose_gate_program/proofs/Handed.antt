@@ -10,6 +10,7 @@ use Rattle.cose_gate_core.specs.Questions.{Question}
 use Rattle.cose_gate_core.specs.declared.gating.Counts.{Counts as Count}
 use Rattle.cose_gate_core.specs.declared.gating.GateFault.{GateFault}
 use Rattle.coset_keys.specs.Fields.{KeyFields}
+use Rattle.cose_gate_program.specs.Lines.{line_of}
 use Rattle.cose_gate_program.specs.Program.{Devices}
 use Rattle.cose_gate_program.specs.Telling.{items_of, last_of, RanTold, EndsTold, not_begun, after_run, told_in}
 use Rattle.cose_gate_program.specs.Writing.{Wrote, WroteSince, HandedOn, HandedSince, LentLines, is_last, is_over}

@@ -1,3 +1,4 @@
+use Rattle.std.proofs.Common.{rules}
 use Rattle.cose_gate_program.proofs.Handed.{handed_told}
 use Rattle.cose_gate_program.proofs.lines.write_logged.Goals as goal
 
