@@ -6,13 +6,13 @@ import hmac
 import json
 import os
 import re
-from dataclasses import dataclass
+from dataclasses import dataclass, replace
 
 from cryptography.exceptions import InvalidSignature, UnsupportedAlgorithm
 from cryptography.hazmat.primitives import hashes, serialization
 from cryptography.hazmat.primitives.asymmetric import ec, ed448, ed25519, padding, rsa, utils
 
-from cose_cbor import Refused, decode, show
+from cose_cbor import ARRAY, Reader, Refused, decode, encode, show
 
 
 # Algorithms
@@ -397,6 +397,73 @@ def makers_of(data):
     if not isinstance(parsed, (list, dict)):
         raise Refused("no PEM, JWK Set or COSE_KeySet")
     return [(from_cose, entries) for entries in (parsed if isinstance(parsed, list) else [parsed])]
+
+
+# Keys for cose-ask
+
+ALG, KID = 1, 4     # in a header (RFC 9052, section 3.1)
+MANY = 256          # key ids under which a set has one PEM
+
+
+class KeySet:
+    """Keys as cose-ask gets them: `encoded` is a COSE_KeySet, and `places` has each key at its place in that, with its key id."""
+
+    def __init__(self, keys):
+        # No message that can be read has an empty key id, nor has a COSE_KeySet.
+        self.keys = [(key, public_entries(key)) for key in keys if key.kid != b""]
+        self.has_any, self.ids = any(key.any_kid for key in keys), set()
+        self.name(set())
+
+    def name(self, ids):
+        """Puts a key for messages of every key id under these ids too."""
+        self.ids = ids if len(self.ids | ids) > MANY else self.ids | ids
+        self.places, self.by_id, entries = [], {}, []
+        for key, each in self.keys:
+            for kid in [None, *self.ids] if key.any_kid else [key.kid]:
+                self.places.append((kid, key))
+                self.by_id.setdefault(kid, []).append(key)
+                entries.append(each if kid is None else {**each, 2: kid})
+        self.encoded = encode(entries)
+
+    def in_words(self, algorithm, kid):
+        """An algorithm and a key id that a message names, and the first keys of that id."""
+        algorithm = "no algorithm" if algorithm is None else name_of(algorithm)
+        keys = [f"{key.kind} {key.curve}".rstrip() + ("" if key.alg is None else f" for {name_of(key.alg)}") + f" in {key.source}"
+                for key in self.by_id.get(kid, [])[:3]]
+        return f"{algorithm}, {show_kid(kid)}" + (": " if keys else "") + ", ".join(keys)
+
+
+def public_entries(key):
+    """The entries of a COSE_Key without key id and private half, and with zeros for a secret, of which the rules ask that it is there. An
+    algorithm that isn't known here is a text, which no rule takes."""
+    entries = to_cose(replace(key, kid=None, private=None, secret=key.secret and bytes(len(key.secret))))
+    return entries if key.alg is None or key.alg in BY_NUMBER else {**entries, 3: show(key.alg)}
+
+
+def names_in(message):
+    """The algorithm and the key id that each signature or MAC of a message names: hints for words, and for what cose-ask gets."""
+    reader = Reader(message)
+    reader.head()
+    reader.head()
+    names = names_at(reader)
+    reader.skip()
+    major, count, _ = reader.head()
+    if major != ARRAY:
+        yield names
+        return
+    while count != 0 and message[reader.at] != 0xFF:
+        is_open = reader.head()[1] is None
+        yield names_at(reader)
+        reader.skip()
+        reader.at += is_open
+        count = count and count - 1
+
+
+def names_at(reader):
+    """Those in the two headers there."""
+    protected, unprotected = reader.item(0), reader.item(0)
+    protected = decode(protected) if protected else {}
+    return protected.get(ALG), protected.get(KID) or unprotected.get(KID)
 
 
 # Signatures and MACs

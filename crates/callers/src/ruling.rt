@@ -11,7 +11,7 @@ use cose_ruled::{RuledJudge, Verify};
 use std::alloc::Global;
 
 /// Finds a signature good that is the covered bytes. It stands where your crypto's call is put.
-#[derive(Clone, Copy, Drop)]
+#[derive(Clone, Copy)]
 pub struct Copies;
 
 impl Verify for Copies {

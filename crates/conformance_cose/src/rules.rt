@@ -27,22 +27,23 @@ fn layer(headers: &(ProtectedHeader, Header)) -> Layer<'_> {
 /// The ruling on a message without signers of its own, whose key is for this operation.
 pub fn of_message(to: &mut Out, [operation, keys, protected, unprotected]: [&str; 4]) {
     let operation = to.number(operation);
-    let keys = read::<CoseKeySet>(to, keys);
-    let message = headers(to, protected, unprotected);
-    if let (Some(keys), Some(message)) = (&keys, &message) {
-        let ruling = rule(operation, &keys.0, layer(message), None);
-        ruled(to, &keys.0, ruling);
+    if let Some(keys) = read::<CoseKeySet>(to, keys) {
+        if let Some(message) = headers(to, protected, unprotected) {
+            let ruling = rule(operation, &keys.0, layer(&message), None);
+            ruled(to, &keys.0, ruling);
+        }
     }
 }
 
 /// The ruling on a signature of a COSE_Sign, with the headers of its signer last.
 pub fn of_signer(to: &mut Out, keys: &str, [protected, unprotected, first, second]: [&str; 4]) {
-    let keys = read::<CoseKeySet>(to, keys);
-    let message = headers(to, protected, unprotected);
-    let signer = headers(to, first, second);
-    if let (Some(keys), Some(message), Some(signer)) = (&keys, &message, &signer) {
-        let ruling = rule(VERIFY, &keys.0, layer(message), Some(layer(signer)));
-        ruled(to, &keys.0, ruling);
+    if let Some(keys) = read::<CoseKeySet>(to, keys) {
+        if let Some(message) = headers(to, protected, unprotected) {
+            if let Some(signer) = headers(to, first, second) {
+                let ruling = rule(VERIFY, &keys.0, layer(&message), Some(layer(&signer)));
+                ruled(to, &keys.0, ruling);
+            }
+        }
     }
 }
 

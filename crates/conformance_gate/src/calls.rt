@@ -1,8 +1,6 @@
 //! Calls by their names.
 use crate::out::{NoAnswer, Out};
-use crate::{
-    asking, blocks, buffers, cutting, gating, judging, program, showing, streaming, uses, words,
-};
+use crate::{asking, buffers, cutting, gating, judging, program, showing, streaming, uses, words};
 
 /// What the call returns that the first argument names.
 pub fn answer(to: &mut Out, row: &str) {
@@ -74,13 +72,12 @@ fn of_program(to: &mut Out, name: &str, row: &mut &str) {
     }
 }
 
-/// Calls over buffers, and blocks.
+/// Calls over buffers.
 fn of_buffers(to: &mut Out, name: &str, row: &mut &str) {
     match name {
         "check-into" => buffers::check_into(to, row),
         "ask-into" => buffers::ask_into(to, row),
         "pass-into" => buffers::pass_into(to, row),
-        "block" => blocks::block(to, row),
         _ => uses::answer(to, name, row),
     }
 }

@@ -4,7 +4,6 @@
 #![tactic(auto)]
 
 mod asking;
-mod blocks;
 mod buffers;
 mod calls;
 mod checking;

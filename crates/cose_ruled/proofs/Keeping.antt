@@ -1,12 +1,12 @@
 -- What is kept of questions, question by question.
-use Rattle.std.proofs.Common.{◌≡◌, ℕ, List, [], ◌∷◌, ◌++◌, map, flat_map, Option, Some, None, refl, sym, ap, subst, ◌∙◌, append_assoc}
+use Rattle.std.proofs.Common.{◌≡◌, ℕ, List, [], ◌∷◌, ◌++◌, map, flat_map, Option, Some, sym, ap, subst, ◌∙◌, append_assoc}
 use Rattle.std.specs.Global.{Vec}
 use Rattle.std.specs.Option.{unwrap_or}
 use Rattle.std.proofs.lemmas.List.{append-nil, map-append}
 use Rattle.std.proofs.lemmas.Grind.{flat_map-append}
 use Rattle.std.proofs.lemmas.List.Folds.{flat_map-map}
 use Rattle.cose_gate_records.specs.Framing.{framed}
-use Rattle.cose_ruled.specs.Blocks.{Part, covered_in, first_covered, base_of, question_text, why_text}
+use Rattle.cose_ruled.specs.Blocks.{Part, covered_in, base_of, question_text, why_text}
 use Rattle.cose_ruled.specs.Told.{AreKept, part_in}
 use Rattle.cose_ruled.specs.declared.told.Told.{Told}
 
@@ -24,7 +24,7 @@ kept_after base why texts [] p b held is =
       (
         whys_more [] p why held.1.0,
         ap (λ (z : List (List ℕ)). z ++ question_text b p ∷ []) held.1.1
-            ∙ ap (λ (z : List ℕ). ◌∷◌ {A = List ℕ} (question_text z p) []) e,
+            ∙ ap (λ (z : List ℕ). let only : List (List ℕ) = question_text z p ∷ [] in only) e,
       ),
     )
 kept_after base why texts (q ∷ qs) p b held is =

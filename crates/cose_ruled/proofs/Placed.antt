@@ -2,7 +2,7 @@
 use Rattle.std.proofs.Common.{◌≡◌, ℕ, ◌+◌, List, [], ◌∷◌, ◌++◌, length, map, flat_map, Bool, true, false, cond, refl, sym, ap, ◌∙◌, arith}
 use Rattle.std.specs.Prelude.{if◌then◌else◌, filter}
 use Rattle.std.specs.List.{enumerate_from}
-use Rattle.std.proofs.lemmas.List.{append-nil, map-append}
+use Rattle.std.proofs.lemmas.List.{map-append}
 use Rattle.std.proofs.lemmas.List.Elements.{filter-append}
 use Rattle.std.proofs.lemmas.Grind.{flat_map-append}
 use Rattle.coset_keys.specs.Fields.{KeyFields}
@@ -14,7 +14,7 @@ use Rattle.cose_ruled.specs.Blocks.{places}
 numbered_more : {X : Type 0} (n : ℕ) (xs : List X) (x : X) → enumerate_from n (xs ++ x ∷ []) ≡ enumerate_from n xs ++ (n + length xs, x) ∷ []
 numbered_more {X} n [] x =
     let e : n ≡ n + 0 = omega arith in
-    ap (λ (i : ℕ). ◌∷◌ {A = ℕ × X} (i, x) []) e
+    ap (λ (i : ℕ). let only : List (ℕ × X) = (i, x) ∷ [] in only) e
 numbered_more {X} n (y ∷ ys) x =
     let e : n + 1 + length ys ≡ n + length (y ∷ ys) = omega arith in
     ap (λ (z : List (ℕ × X)). (n, y) ∷ z)

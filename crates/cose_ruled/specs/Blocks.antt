@@ -1,7 +1,7 @@
 -- What is written of an item, so that its signatures can be checked: which of them, over which
 -- bytes, by which algorithm and under which keys, or why none. All numbers are eight bytes, the
 -- lowest first.
-use Rattle.std.specs.Prelude.{ℕ, ◌-◌, List, [], ◌∷◌, ◌++◌, length, take, drop, reverse, map, filter, flat_map, nat_eq, codes, Bool, true, false, Option, None, Some, option_map, Result, Ok, Err}
+use Rattle.std.specs.Prelude.{ℕ, ◌-◌, List, [], ◌∷◌, ◌++◌, length, take, drop, reverse, map, filter, flat_map, nat_eq, codes, Bool, true, false, Option, None, Some, Result, Ok, Err}
 use Rattle.std.specs.Int.{w64, cast_unsigned}
 use Rattle.std.specs.List.{common_prefix_len, enumerate_from}
 use Rattle.coset_keys.specs.Fields.{KeyFields}
@@ -14,8 +14,10 @@ use Rattle.cose_gate_core.specs.Questions.{Subject, Question, number_of, or_noth
 use Rattle.cose_gate_core.specs.ReasonNames.{refusal_name}
 use Rattle.cose_gate_core.specs.declared.about.MessageKind.{MessageKind}
 use Rattle.cose_gate_core.specs.declared.report.Entry.{Entry}
+use Rattle.cose_gate_core.specs.declared.report.Refusal.TheVariants as gate
 use Rattle.cose_gate_core.specs.declared.report.Verdict.{Verdict}
 use Rattle.cose_gate_core.specs.declared.report.Verdict.TheVariants.{Passed, Refused}
+use Rattle.cose_gate_program.specs.Lines.{cose_text}
 use Rattle.cose_gate_records.specs.Digests.{digest_of}
 use Rattle.cose_gate_records.specs.Framing.{eight, framed}
 use Rattle.cose_ruled.specs.Judging.{ruled}
@@ -94,10 +96,15 @@ question_text base (shown about covered signed) =
     framed (about ++ (beside base covered ++ signed))
 question_text base (refused why) = []
 
--- why the rules refuse it
+-- why the rules refuse a question, and why an item is refused: what is wrong with its shape, or why
+-- the rules refuse one of its questions
 abbrev pub why_text : Part → List ℕ
 why_text (shown about covered signed) = []
 why_text (refused why) = refusal_text why
+
+abbrev pub why_by : Verdict → List Part → List ℕ
+why_by (Refused (gate.Shape e)) ps = cose_text e
+why_by v ps = flat_map why_text ps
 
 -- the verdict, as on the item's line
 abbrev pub verdict_text : Verdict → List ℕ
@@ -112,11 +119,11 @@ body_by (Refused r) ps = framed []
 
 -- the block of an item with this entry, which ends at this offset, and about which these questions
 -- were asked, after its length: its number, where it begins and ends, how many questions were asked,
--- the verdict, why the rules refuse it, and the questions
+-- the verdict, why it is refused, and the questions
 abbrev pub text_by : Entry → ℕ → List Part → List ℕ
 text_by e end ps =
     eight e.number ++ (eight e.offset ++ (eight end ++ (eight (length ps)
-    ++ (framed (verdict_text e.verdict) ++ (framed (flat_map why_text ps) ++ body_by e.verdict ps)))))
+    ++ (framed (verdict_text e.verdict) ++ (framed (why_by e.verdict ps) ++ body_by e.verdict ps)))))
 
 abbrev pub block_by : Entry → ℕ → List Part → List ℕ
 block_by e end ps = framed (text_by e end ps)

@@ -6,6 +6,7 @@ mod about;
 mod asker;
 mod beside;
 mod judge;
+pub mod laws;
 mod questions;
 mod ruling;
 mod running;

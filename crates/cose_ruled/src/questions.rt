@@ -189,6 +189,20 @@ impl Kept {
         }
     }
 
+    /// Appends why the item is refused, if that is its shape or the rules refuse a question.
+    fn append_reason(&self, text: &mut Vec<u8>, verdict: Verdict) -> Result<(), AllocError>
+        ensures { OnOk result («text».new.items
+            ≡ «text».old.items ++ framed (spec.why_by verdict (parts_in self.now.told))) }
+    {
+        match verdict {
+            Verdict::Refused(cose_gate_core::Refusal::Shape(error)) => {
+                let words = format!(in *text.allocator(); "{error}")?;
+                append(text, words.as_bytes())
+            }
+            _ => append(text, &self.why),
+        }
+    }
+
     /// Appends the first question's covered bytes and the questions, if the rules allow all.
     fn append_body(&self, text: &mut Vec<u8>, verdict: Verdict) -> Result<(), AllocError>
         ensures { OnOk result («text».new.items
@@ -214,7 +228,7 @@ impl Kept {
         text.extend_from_slice(&eight(end))?;
         text.extend_from_slice(&eight(self.texts.len()))?;
         append_verdict(&mut text, entry.verdict)?;
-        append(&mut text, &self.why)?;
+        self.append_reason(&mut text, entry.verdict)?;
         self.append_body(&mut text, entry.verdict)?;
         Ok(text)
     }

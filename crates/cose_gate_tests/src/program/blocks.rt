@@ -95,3 +95,14 @@ fn a_flush_goes_through_both_blocks(rt: HostRuntime) {
     assert!(rt; out.write_all(b"abc").is_ok());
     assert!(rt; out.flush().is_err());
 }
+
+#[test]
+fn what_follows_a_full_block_is_held(rt: HostRuntime) {
+    let alloc = rt.alloc();
+    let block = Vec::with_capacity(alloc, 4).expect(&rt, "memory");
+    let mut room = [0; 3];
+    let mut out = OutBlocks::new(block, room.as_mut_slice());
+    assert!(rt; out.write_all(b"abc").is_ok());
+    assert!(rt; out.write_all(b"de").is_ok());
+    assert!(rt; out.flush().is_err());
+}

@@ -1,19 +1,19 @@
 use Rattle.std.proofs.Common.{refl, ◌∙◌}
 use Rattle.cose_gate_program.proofs.Tellings.{not_ended}
-use Rattle.cose_gate_command.specs.Asking.AsksByRules as by
+use Rattle.cose_gate_command.specs.Asking.AsksByRules.{not_begun, after_run}
 use Rattle.cose_gate_command.proofs.asking.ask_keys.Goals as goal
 
 pub returns-in-Ok-clause-ran : goal.returns-in-Ok-clause-ran
 returns-in-Ok-clause-ran g c =
     let b = c.in-Ok.ensures in
-    by.after_run b.0 _ b.1 b.2 _ b.3
+    after_run b.0 _ b.1 b.2 _ b.3
     (rw c.as_slice.ensures.value at (rw (c.run_terms-run.ensures.terms, c.run_terms-run.ensures.aad) at c.ask_blocks.ensures.ran))
 
-pub returns-clause-ran : goal.returns-clause-ran
-returns-clause-ran g c = by.not_begun c.in-Err.why c.in-Err.ensures c.end_unbegun.ensures.status refl refl c.end_unbegun.ensures.said
+pub returns-in-Err-clause-ran : goal.returns-in-Err-clause-ran
+returns-in-Err-clause-ran g c = not_begun c.in-Err.why c.in-Err.ensures c.end_unbegun.ensures.status refl refl c.end_unbegun.ensures.said
 
-pub returns-clause-handed : goal.returns-clause-handed
-returns-clause-handed g c = not_ended _ c.in-Err.why _ c.end_unbegun.ensures.status
+pub returns-in-Err-clause-handed : goal.returns-in-Err-clause-handed
+returns-in-Err-clause-handed g c = not_ended _ c.in-Err.why _ c.end_unbegun.ensures.status
 
-pub returns-clause-lines : goal.returns-clause-lines
-returns-clause-lines g c = not_ended _ c.in-Err.why _ c.end_unbegun.ensures.status
+pub returns-in-Err-clause-lines : goal.returns-in-Err-clause-lines
+returns-in-Err-clause-lines g c = not_ended _ c.in-Err.why _ c.end_unbegun.ensures.status

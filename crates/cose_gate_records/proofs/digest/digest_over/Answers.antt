@@ -1,4 +1,4 @@
-use Rattle.std.proofs.Common.{◌≡◌, List, ℕ, ap, ◌∙◌}
+use Rattle.std.proofs.Common.{List, ℕ, ap, ◌∙◌}
 use Rattle.sha2.specs.Sha256.{sha256}
 use Rattle.cose_gate_records.proofs.Hashed.{one_key}
 use Rattle.cose_gate_records.proofs.digest.digest_over.Goals as goal

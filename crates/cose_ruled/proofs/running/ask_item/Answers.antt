@@ -1,6 +1,6 @@
 use Rattle.std.proofs.Common.{refl, ◌∙◌}
 use Rattle.cose_gate_core.proofs.InOrder.{err_is}
-use Rattle.cose_ruled.proofs.Running.{block_sent, block_torn}
+use Rattle.cose_ruled.proofs.Runs.{block_sent, block_torn}
 use Rattle.cose_ruled.proofs.running.ask_item.Goals as goal
 
 pub returns-in_err-block-clause-handed : goal.returns-in_err-block-clause-handed
@@ -11,7 +11,7 @@ returns-in-Ok-clause-handed g c = λ ps is.
     block_sent g.W.Write g.T.Teller _ _ _ _ _ _ _ _ _ _ c.in-Ok.is c.write_block-handed.ensures.ok c.write_block-handed.ensures.failed
     (c.deref.ensures.value ∙ c.in_ok-block.ensures ps is) c.tell.ensures c.rest.ensures
 
-pub returns-in-Err-clause-handed : goal.returns-in-Err-clause-handed
-returns-in-Err-clause-handed g c = λ ps is.
+pub returns-clause-handed : goal.returns-clause-handed
+returns-clause-handed g c = λ ps is.
     block_torn g.W.Write g.T.Teller _ _ _ _ _ _ _ _ _ c.in-Err.is c.write_block-handed.ensures.err c.write_block-handed.ensures.failed
     (c.deref.ensures.value ∙ c.in_ok-block.ensures ps is) c.tell.ensures

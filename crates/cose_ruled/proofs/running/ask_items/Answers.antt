@@ -1,10 +1,10 @@
-use Rattle.std.proofs.Common.{ℕ, List, [], drop, get_or, true, refl, sym, ap, ◌∙◌, arith, rules}
+use Rattle.std.proofs.Common.{ℕ, ◌+◌, ◌<◌, List, [], Some, None, Ok, Err, drop, get_or, true, refl, sym, ap, ◌∙◌, arith, rules}
 use Rattle.std.proofs.KnownBytes.{Appends-nil}
 use Rattle.cose_gate_core.proofs.InOrder.{err_is}
 use Rattle.cose_gate_core.proofs.Reach.{reached_start}
 use Rattle.cose_gate_program.proofs.Runs.{no_title}
 use Rattle.cose_ruled.specs.Blocks.{Asked, Item}
-use Rattle.cose_ruled.proofs.Running.{asked_same, at_end, block_handed, come_next, goes_on, not_handed}
+use Rattle.cose_ruled.proofs.Runs.{asked_same, at_end, come_next, goes_on, not_handed}
 use Rattle.cose_ruled.proofs.running.ask_items.Goals as goal
 
 pub items-init : goal.items-init
@@ -38,10 +38,9 @@ items-preserved g c =
     let next = c.in_ok-next.ensures in
     let more = rw c.in-Some.is at next.more in
     let who = ap (λ (z : Item). z.keys) c.next_item.ensures.item ∙ inv.who in
+    let here = ap (λ (z : Item). z.before) (next.who ∙ c.next_item.ensures.item) ∙ ap (λ (z : Asked). z.told) (sym c.next_item.ensures.told) in
     let come = asked_same _ _ _ g.W.Write g.T.Teller _ _ _ _ _ _ _ _ _ _ _ _ c.next_item.ensures.told inv.come in
-    let far = goes_on _ _ _ _ _ _ _ _ who (rw c.in-Some.is at next.ran) true come.first come.done come.reached in
-    let handed = block_handed _ _ _ g.W.Write g.T.Teller _ _ _ _ _ _ _ _ come _ _ _ far _ _ _ _ _ who
-    (ap (λ (z : Item). z.before) (next.who ∙ c.next_item.ensures.item) ∙ ap (λ (z : Asked). z.told) (sym c.next_item.ensures.told)) c.offset.ensures c.in_ok-ask_item.ensures.handed in
+    let far = goes_on _ _ _ _ _ _ _ (Ok (Some c.in-Some.next)) who (rw c.in-Some.is at next.ran) true come.first come.done come.reached in
     record {
       who = ap (λ (z : Item). z.keys) next.who ∙ who;
       reader = search rules;
@@ -49,8 +48,8 @@ items-preserved g c =
       kept = ap (λ (z : List ℕ). drop 1 z) next.kept ∙ inv.kept;
       lent = c.in_ok-ask_item.ensures.lent ∙ inv.lent;
       fresh = next.fresh;
-      room = omega arith;
-      come = come_next _ _ _ g.W.Write g.T.Teller _ _ _ _ _ _ _ _ come _ _ _ far _ _ tt handed;
+      room = omega (arith, more.1);
+      come = come_next _ _ _ g.W.Write g.T.Teller _ _ _ _ _ _ _ _ come _ _ _ far _ _ _ _ tt who here c.offset.ensures c.in_ok-ask_item.ensures.handed;
     }
 
 pub items-smaller : goal.items-smaller
@@ -63,9 +62,9 @@ returns-in_err-next-clause-ran g c =
     let next = c.in_err-next.ensures in
     let who = ap (λ (z : Item). z.keys) c.next_item.ensures.item ∙ inv.who in
     let come = asked_same _ _ _ g.W.Write g.T.Teller _ _ _ _ _ _ _ _ _ _ _ _ c.next_item.ensures.told inv.come in
-    let ran = goes_on _ _ _ _ _ _ _ _ who next.ran true come.first come.done come.reached in
+    let ran = goes_on _ _ _ _ _ _ _ (Err _) who next.ran true come.first come.done come.reached in
     rw (err_is _ _ c.from_residual.ensures.1)
-    (at_end _ _ _ g.W.Write g.T.Teller _ _ _ _ _ _ _ _ come _ _ ran _ _ _ (sym (no_title _ _ _ refl next.fresh)) refl (search rules) (search rules))
+    (at_end _ _ _ g.W.Write g.T.Teller _ _ _ _ _ _ _ _ come _ _ ran _ _ _ (search rules ∙ sym (no_title _ _ _ refl next.fresh)) refl (search rules) (search rules))
 
 -- all items are gone through
 pub returns-in_default-clause-ran : goal.returns-in_default-clause-ran
@@ -74,8 +73,8 @@ returns-in_default-clause-ran g c =
     let next = c.in_ok-next.ensures in
     let who = ap (λ (z : Item). z.keys) c.next_item.ensures.item ∙ inv.who in
     let come = asked_same _ _ _ g.W.Write g.T.Teller _ _ _ _ _ _ _ _ _ _ _ _ c.next_item.ensures.told inv.come in
-    let ran = goes_on _ _ _ _ _ _ _ _ who (rw c.in_default.is at next.ran) true come.first come.done come.reached in
-    at_end _ _ _ g.W.Write g.T.Teller _ _ _ _ _ _ _ _ come _ _ ran _ _ _ (sym (no_title _ _ _ refl next.fresh)) refl (search rules) (search rules)
+    let ran = goes_on _ _ _ _ _ _ _ (Ok None) who (rw c.in_default.is at next.ran) true come.first come.done come.reached in
+    at_end _ _ _ g.W.Write g.T.Teller _ _ _ _ _ _ _ _ come _ _ ran _ _ _ (search rules ∙ sym (no_title _ _ _ refl next.fresh)) refl (search rules) (search rules)
 
 -- a block could not be handed on
 pub returns-in_err-ask_item-clause-ran : goal.returns-in_err-ask_item-clause-ran
@@ -83,10 +82,10 @@ returns-in_err-ask_item-clause-ran g c =
     let inv = c.items.invariant in
     let next = c.in_ok-next.ensures in
     let more = rw c.in-Some.is at next.more in
+    let some : 0 < c.in-Some.next.passed + c.in-Some.next.refused = omega (arith, more.1) in
     let who = ap (λ (z : Item). z.keys) c.next_item.ensures.item ∙ inv.who in
+    let here = ap (λ (z : Item). z.before) (next.who ∙ c.next_item.ensures.item) ∙ ap (λ (z : Asked). z.told) (sym c.next_item.ensures.told) in
     let come = asked_same _ _ _ g.W.Write g.T.Teller _ _ _ _ _ _ _ _ _ _ _ _ c.next_item.ensures.told inv.come in
-    let far = goes_on _ _ _ _ _ _ _ _ who (rw c.in-Some.is at next.ran) true come.first come.done come.reached in
-    let handed = block_handed _ _ _ g.W.Write g.T.Teller _ _ _ _ _ _ _ _ come _ _ _ far _ _ _ _ _ who
-    (ap (λ (z : Item). z.before) (next.who ∙ c.next_item.ensures.item) ∙ ap (λ (z : Asked). z.told) (sym c.next_item.ensures.told)) c.offset.ensures c.in_err-ask_item.ensures.handed in
+    let far = goes_on _ _ _ _ _ _ _ (Ok (Some c.in-Some.next)) who (rw c.in-Some.is at next.ran) true come.first come.done come.reached in
     rw (err_is _ _ c.from_residual-in_err-ask_item.ensures.1)
-    (not_handed _ _ _ g.W.Write g.T.Teller _ _ _ _ _ _ _ _ come _ _ _ far _ _ _ (sym (no_title _ _ _ refl next.fresh)) refl (search rules) (omega arith) _ _ _ handed)
+    (not_handed _ _ _ g.W.Write g.T.Teller _ _ _ _ _ _ _ _ come _ _ _ far _ _ _ (search rules ∙ sym (no_title _ _ _ refl next.fresh)) refl (search rules) some _ _ _ _ _ who here c.offset.ensures c.in_err-ask_item.ensures.handed)

@@ -3,7 +3,7 @@ use Rattle.ciborium_ll.specs.Views.{left_of, offset_of, reader_of, waiting_of}
 use Rattle.coset_keys.specs.View.{key_view}
 use Rattle.cose_gate_core.specs.Terms.{limits_of}
 use Rattle.cose_ruled.specs.Asking.{asked_by, item_of}
-use Rattle.cose_ruled.proofs.Running.{Come, sight}
+use Rattle.cose_ruled.proofs.Runs.{Come, sight}
 use Rattle.cose_ruled.proofs.running.ask_items.Given as goal
 
 abbrev pub invariant-items : goal.invariant-items

@@ -1,6 +1,6 @@
 use Rattle.std.proofs.Common.{refl}
 use Rattle.cose_gate_program.proofs.Tellings.{handed_on}
-use Rattle.cose_ruled.proofs.Running.{told_end}
+use Rattle.cose_ruled.proofs.Runs.{told_end}
 use Rattle.cose_ruled.proofs.running.ask_ruled.Goals as goal
 
 pub returns-clause-ran : goal.returns-clause-ran

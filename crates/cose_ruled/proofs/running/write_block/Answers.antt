@@ -2,7 +2,7 @@ use Rattle.std.proofs.Common.{OnOk}
 use Rattle.std.specs.Prelude.{Result, Ok, Err}
 use Rattle.cose_gate_core.proofs.InOrder.{on_err_is}
 use Rattle.cose_gate_core.proofs.Outcomes.{flushed}
-use Rattle.cose_ruled.proofs.Running.{front_of_all}
+use Rattle.cose_ruled.proofs.Runs.{front_of_all}
 use Rattle.cose_ruled.proofs.running.write_block.Goals as goal
 
 on_ok_is : {A E P : Type 0} (r : Result A E) → P → OnOk r P

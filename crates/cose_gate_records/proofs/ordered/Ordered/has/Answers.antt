@@ -1,4 +1,4 @@
-use Rattle.std.proofs.Common.{◌≡◌, List, ℕ, Bor, rules, sym, subst, ◌∙◌}
+use Rattle.std.proofs.Common.{List, ℕ, Bor, rules, sym, subst, ◌∙◌}
 use Rattle.std.proofs.lemmas.Fn.{always_returns_same}
 use Rattle.cose_gate_records.specs.Order.{bytes_cmp}
 use Rattle.cose_gate_records.proofs.Order.{IsFound, found_by_halves, same_among}

@@ -1,6 +1,5 @@
 use Rattle.std.proofs.Common.{◌++◌, flat_map}
 use Rattle.std.proofs.lemmas.Result.{IfOk-equal}
-use Rattle.cose_ruled.specs.Blocks.{body_by}
 use Rattle.cose_ruled.specs.Told.{parts_in}
 use Rattle.cose_ruled.proofs.Keeping.{body_is}
 use Rattle.cose_ruled.proofs.questions.Kept.append_body.Goals as goal

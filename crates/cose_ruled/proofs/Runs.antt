@@ -144,7 +144,7 @@ module _ (limits : Bounds) (keys : List KeyFields) (aad : List ℕ) where
         record {
           run = ran.0.run;
           shows = shown by come.first new n n' (w.failed out) (w.failed out') r _ _ come.start (same_devices _ _ _ _ _ _ _ _ (sym come.there) (sym come.nothing) refl refl)
-              (same_devices _ _ _ _ _ _ _ _ same (sym none) refl refl) ran.0 reads (let e = come.failed in omega (arith, fails, e));
+              (same_devices _ _ _ _ _ _ _ _ same (sym none) refl refl) ran.0 reads (let e = come.failed in omega (arith, writes, e));
           asked = tt;
           told = subst (λ (ss : List Step). tells t teller teller' (items_of ss)) (sym ran.1) come.told;
           result_is = ran.0.returned;
@@ -182,7 +182,7 @@ module _ (limits : Bounds) (keys : List KeyFields) (aad : List ℕ) where
             ∙ ap (λ (n : ℕ). block_by far.0.entry n (map (part_of keys) asked)) (e ∙ end_is)
 
         -- what became of the block is that of the step's block
-        pub block_handed : (before : List Part) (end : ℕ) (out'' : W) (teller'' : T) (r : Result (Unit {0}) (GateFault InputFault)) → now.told.keys ≡ keys → before ≡ now.told.told → end ≡ new.offset
+        block_handed : (before : List Part) (end : ℕ) (out'' : W) (teller'' : T) (r : Result (Unit {0}) (GateFault InputFault)) → now.told.keys ≡ keys → before ≡ now.told.told → end ≡ new.offset
             → ((ps : List Part) → new.told.told ≡ before ++ ps → BlockHanded w t out' out'' teller' teller'' new.state (block_by new.state end ps) r)
             → BlockHanded w t out' out'' teller' teller'' far.0.entry (block_at keys aad far.0) r
         block_handed before end out'' teller'' r same here e f =
@@ -202,20 +202,23 @@ module _ (limits : Bounds) (keys : List KeyFields) (aad : List ℕ) where
             (tells_then t.folded (t.state teller) (t.state teller') (t.state teller'') (items_of come.done) (notice.Item far.0.entry) come.told told)
 
         -- it was handed on
-        pub come_next : (out'' : W) (teller'' : T) (u : Unit {0}) → BlockHanded w t out' out'' teller' teller'' far.0.entry (block_at keys aad far.0) (Ok u)
+        pub come_next : (before : List Part) (end : ℕ) (out'' : W) (teller'' : T) (u : Unit {0}) → now.told.keys ≡ keys → before ≡ now.told.told → end ≡ new.offset
+            → ((ps : List Part) → new.told.told ≡ before ++ ps → BlockHanded w t out' out'' teller' teller'' new.state (block_by new.state end ps) (Ok u))
             → Come w t left new out out'' teller teller'' passed' refused'
-        come_next out'' teller'' u h = record {
-          first = come.first;
-          start = come.start;
-          nothing = come.nothing;
-          there = come.there;
-          done = come.done ++ far.0 ∷ [];
-          reached = far.1;
-          failed = h.0 ∙ come.failed;
-          written = subst (λ (z : List ℕ). Appends (w.written out) (w.written out'') z) (sym blocks_then)
-              (Appends-trans _ _ _ (blocks_of keys aad come.done) (block_at keys aad far.0) come.written h.1);
-          told = told_then teller'' h.2;
-        }
+        come_next before end out'' teller'' u same here e f =
+            let h = block_handed before end out'' teller'' (Ok u) same here e f in
+            record {
+              first = come.first;
+              start = come.start;
+              nothing = come.nothing;
+              there = come.there;
+              done = come.done ++ far.0 ∷ [];
+              reached = far.1;
+              failed = h.0 ∙ come.failed;
+              written = subst (λ (z : List ℕ). Appends (w.written out) (w.written out'') z) (sym blocks_then)
+                  (Appends-trans _ _ _ (blocks_of keys aad come.done) (block_at keys aad far.0) come.written h.1);
+              told = told_then teller'' h.2;
+            }
 
         -- the run if there is no memory for the block: the item is done but for its entry
         abbrev undone : Ran is_end true by come.first (record new { state = folded_over by.folded come.first.state (entries_of come.done) }) (Err Memory)
@@ -239,10 +242,10 @@ module _ (limits : Bounds) (keys : List KeyFields) (aad : List ℕ) where
 
         module _ (n n' : ℕ) (rest : Option (List ℕ)) (same : rest ≡ new.left) (none : new.written ≡ None) (reads : n' ≡ n) (some : 0 < passed' + refused') where
           -- the writer failed, or there is no memory for the block
-          pub not_handed : (out'' : W) (teller'' : T) (fault : GateFault InputFault) → BlockHanded w t out' out'' teller' teller'' far.0.entry (block_at keys aad far.0) (Err fault)
+          stopped : (out'' : W) (teller'' : T) (fault : GateFault InputFault) → BlockHanded w t out' out'' teller' teller'' far.0.entry (block_at keys aad far.0) (Err fault)
               → AskedItems w limits keys aad (devices w left n out) (devices w rest n' out'') out out'' (Err fault) (tells t teller teller'')
-          not_handed out'' teller'' (Decode e) h = absurd h
-          not_handed out'' teller'' Write h =
+          stopped out'' teller'' (Decode e) h = absurd h
+          stopped out'' teller'' Write h =
               let ran = answer_unflushed by is_end true come.first new passed' refused' (come.done ++ far.0 ∷ []) refl some far.1 in (
                 record {
                   run = ran.0.run;
@@ -255,7 +258,7 @@ module _ (limits : Bounds) (keys : List KeyFields) (aad : List ℕ) where
                 subst (λ (z : List ℕ). AppendsFront (w.written out) (w.written out'') z) (sym blocks_then)
                     (front_of_second _ _ _ (blocks_of keys aad come.done) (block_at keys aad far.0) come.written h.1),
               )
-          not_handed out'' teller'' Memory h = (
+          stopped out'' teller'' Memory h = (
             record {
               run = undone.run;
               shows = shown by come.first _ n n' (w.failed out) (w.failed out'') (Err Memory) _ _ come.start (same_devices _ _ _ _ _ _ _ _ (sym come.there) (sym come.nothing) refl refl)
@@ -266,6 +269,11 @@ module _ (limits : Bounds) (keys : List KeyFields) (aad : List ℕ) where
             },
             subst (λ (z : W). Appends (w.written out) (w.written z) (blocks_of keys aad come.done)) (sym h.0) come.written,
           )
+
+          pub not_handed : (before : List Part) (end : ℕ) (out'' : W) (teller'' : T) (fault : GateFault InputFault) → now.told.keys ≡ keys → before ≡ now.told.told → end ≡ new.offset
+              → ((ps : List Part) → new.told.told ≡ before ++ ps → BlockHanded w t out' out'' teller' teller'' new.state (block_by new.state end ps) (Err fault))
+              → AskedItems w limits keys aad (devices w left n out) (devices w rest n' out'') out out'' (Err fault) (tells t teller teller'')
+          not_handed before end out'' teller'' fault keys_same here e f = stopped out'' teller'' fault (block_handed before end out'' teller'' (Err fault) keys_same here e f)
 
 -- the run after a flush, and the last notice
 pub told_end : {W F T X G : Type 0} (w : Writes W F) (t : Tells T) (limits : Bounds) (keys : List KeyFields) (aad : List ℕ) (old mid new : Devices) (out out' out'' : W) (teller teller' teller'' : T)
