@@ -441,7 +441,7 @@ def public_entries(key):
 
 
 def names_in(message):
-    """The algorithm and the key id that each signature or MAC of a message names: hints for words, and for what cose-ask gets."""
+    """The algorithm and the key id that each signature or MAC of a message names: hints for reasons, and for what cose-ask gets."""
     reader = Reader(message)
     reader.head()
     reader.head()
