@@ -1,7 +1,7 @@
 #!/usr/bin/env bash
 # scripts/try.sh PROGRAM ARGS..: builds cose-gate, cose-ask, cose-pass, cose-sift or cose-show without proving it, in about a minute, and runs it. Standard
 # input and output and the exit status are the program's; a line on standard error says that it is not proved. It is kept in out/unproved, and
-# built again if a source is newer. Of cose-verify the three programs that it runs are built so. scripts/try.sh --path PROGRAM builds it and
+# built again if a source is newer. Of cose-verify the two programs that it runs are built so. scripts/try.sh --path PROGRAM builds it and
 # prints its path. Status 70 if it can't be built; what is said of a missing kit begins with CALLED, or with PROGRAM.
 # The program is the one that `rt try` runs: not optimized, and it ends at an index out of range, a sum that wraps, or a bad access. It takes
 # some hundred times as long as the proved one, and doesn't run under `ulimit -v`.
@@ -26,7 +26,7 @@ case $name in
 esac
 shift
 if [ "$name" = cose-verify ]; then
-  for it in gate ask pass; do
+  for it in ask pass; do
     CALLED=$name bash "$0" --path cose-$it > /dev/null || exit
   done
   PATH=$top/out/unproved:$PATH exec "$top/tools/cose-verify" "$@"
