@@ -220,12 +220,12 @@ fn key_file<'a>(name: &'a str, bytes: Option<&'a [u8]>) -> KeyFile<'a> {
 
 /// Appends how a program ended, with the line of why it didn't run.
 fn add_end(to: &mut Out, end: Result<u8, NotRun>, out: &[u8], err: &[u8]) {
-    let mut line = Vec::new(to.alloc());
+    let mut line = Mem::new(Vec::new(to.alloc()));
     let status = ended(end, "usage", &mut line);
     add_ended(to, status, out, err);
-    match std::str::from_utf8(&line) {
-        Ok(line) => to.lines(line),
-        Err(_) => to.hex(&line),
+    match std::str::from_utf8(line.as_written()) {
+        Ok(said) => to.lines(said),
+        Err(_) => to.hex(line.as_written()),
     }
 }
 
