@@ -17,7 +17,7 @@ import sys
 import tempfile
 from concurrent.futures import ThreadPoolExecutor
 
-BOUND = 16_000
+BOUND = 14_500
 GROWTH = 5.5
 FEW, MANY = 1_000, 4_000
 
