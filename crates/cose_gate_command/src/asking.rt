@@ -36,9 +36,9 @@ use std::alloc::Global;
 /// can't be used, lines and status are those of `program`.
 ///
 /// # Errors
-/// `Usage`, and without `--keys` `NotHex` and `Memory`, before anything is read. `Output` if a record
-/// can't be written, and `Memory` if it was out of memory for one: those before it are written, no
-/// later one is asked for, and the lines have no last one.
+/// `Usage`, and without `--keys` `NotHex` and `Memory`, before anything is read. `Output` if a
+/// record can't be written, and `Memory` if it was out of memory for one: those before it are
+/// written, no later one is asked for, and the lines have no last one.
 pub fn ask<'a, R: Read, W: Write, E: Write>(
     alloc: Global,
     words: &'a [String],

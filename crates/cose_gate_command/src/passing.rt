@@ -19,8 +19,8 @@ use std::alloc::Global;
 /// messages that pass go to `out`, and the lines to `err`. The status is that of the run.
 ///
 /// # Errors
-/// `Usage`, `NoFile`, `NotHex`, `LineNotHex`, `LineNoRecord`, `NoRecords`, `NoDigests` and `Memory`,
-/// before any input is read.
+/// `Usage`, `NoFile`, `NotHex`, `LineNotHex`, `LineNoRecord`, `NoRecords`, `NoDigests` and
+/// `Memory`, before any input is read.
 pub fn pass<R: Read, W: Write, E: Write>(
     alloc: Global,
     words: &[String],

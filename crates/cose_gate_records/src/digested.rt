@@ -3,7 +3,8 @@ ghost use Rattle.std.specs.Prelude.{◌≡◌, ◌*◌, ◌++◌, ℕ, List, [],
 ghost use Rattle.std.specs.Prelude.{MatchOption, length, map};
 ghost use Rattle.cose_gate_core.specs.Lent.{subject_of};
 ghost use Rattle.cose_gate_core.specs.Questions.{Subject};
-ghost use Rattle.cose_gate_records.specs.Digests.{AreDigests, IsHashed, digests_of, is_digest_among};
+ghost use Rattle.cose_gate_records.specs.Digests.{AreDigests, IsHashed};
+ghost use Rattle.cose_gate_records.specs.Digests.{digests_of, is_digest_among};
 
 use crate::digest::digest_over;
 use crate::front::front_of;

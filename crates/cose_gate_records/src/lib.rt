@@ -1,6 +1,6 @@
 //! Judges whose answers come from elsewhere: one that tells each question as a record, and two that
-//! say yes to the questions whose records, or digests, they were handed. And the gate over buffers that the caller
-//! owns: three calls, which `cose_gate_c` exports to C.
+//! say yes to the questions whose records, or digests, they were handed. And the gate over buffers
+//! that the caller owns: three calls, which `cose_gate_c` exports to C.
 #![tactic(auto)]
 
 mod accepted;

@@ -90,7 +90,8 @@ impl Judge for RuledAsker<'_> {
 
     ghost decided = { λ s q. record s { told = s.told ++ part_of s.keys q ∷ [] } };
 
-    /// Begins a question. If it was out of memory for an earlier one about the item, this fails too.
+    /// Begins a question. If it was out of memory for an earlier one about the item, this fails,
+    /// too.
     fn begin(&mut self, about: &About) -> Result<(), AllocError> {
         if self.questions.is_lost() {
             return Err(AllocError);

@@ -34,13 +34,14 @@ fn common_back(xs: &[u8], ys: &[u8]) -> usize
     count
 }
 
-/// Appends what these bytes have beside a base: so much of what both begin and end with is left out.
+/// Appends what these bytes have beside a base: what both begin and end with is left out.
 pub(crate) fn append_beside(
     text: &mut Vec<u8>,
     base: &[u8],
     covered: &[u8],
 ) -> Result<(), AllocError>
-    ensures { OnOk result («text».new.items ≡ «text».old.items ++ spec.beside base.now covered.now) }
+    ensures { OnOk result («text».new.items
+        ≡ «text».old.items ++ spec.beside base.now covered.now) }
 {
     let front = common_front(base, covered);
     let rest = &covered[front..];

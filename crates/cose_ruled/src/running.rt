@@ -138,13 +138,13 @@ fn ask_items<R: Read, W: Write, T: Teller>(
 /// Asks, by the rules and under these keys, about the items of the input, as the gate does by these
 /// terms with `aad` as external data, and checks no signature. Of each item a block is written to
 /// `out` and handed on, which shows the questions, if the rules allow them all; then the item is
-/// told, and the teller rests, before more input is read. A block is linear in its item, and no more
-/// is held than one item at a time.
+/// told, and the teller rests, before more input is read. A block is linear in its item, and one
+/// item is held at a time.
 ///
 /// The status is 0 if the rules refused no item, 1 if they refused some, and 4 if the gate stopped,
 /// if a block could not be handed on, or if it is out of memory. Blocks were written, and items
-/// told, up to where it stopped; if out of memory for a block, its item has none and isn't told. If a
-/// block could not be handed on, its item is told, and only a beginning of the blocks was written.
+/// told, up to where it stopped; if out of memory for a block, its item has none and isn't told. If
+/// a block could not be handed on, its item is told, and only a beginning of the blocks was written.
 pub fn ask_ruled<R: Read, W: Write, T: Teller>(
     alloc: Global,
     terms: Terms,

@@ -30,8 +30,8 @@ impl<'a> Question<'a> {
     }
 }
 
-/// What is told of a question: what it is about, the covered bytes, and signature and digest; or why
-/// the rules refuse it. It is in contracts alone, and takes no memory.
+/// What is told of a question: what it is about, the covered bytes, and signature and digest; or
+/// why the rules refuse it. It is in contracts alone, and takes no memory.
 #[derive(Drop)]
 pub(crate) enum Told {
     Shown(Log<u8>, Log<u8>, Log<u8>),
