@@ -144,7 +144,7 @@ fn ask_items<R: Read, W: Write, T: Teller>(
 /// The status is 0 if the rules refused no item, 1 if they refused some, and 4 if the gate stopped,
 /// if a block could not be handed on, or if it is out of memory. Blocks were written, and items
 /// told, up to where it stopped; if out of memory for a block, its item has none and isn't told. If
-/// a block could not be handed on, its item is told, and only a beginning of the blocks was written.
+/// a block could not be handed on, its item is told, and a beginning of the blocks was written.
 pub fn ask_ruled<R: Read, W: Write, T: Teller>(
     alloc: Global,
     terms: Terms,
