@@ -9,6 +9,7 @@
 
 Status 1 if one of these fails. Without valgrind it says that it is left out, and looks at nothing. CRATES is another folder of crates with
 such out/."""
+import hashlib
 import os
 import re
 import shutil
@@ -80,6 +81,7 @@ def keys(number):
 
 
 PAYLOAD, TAG = string(b"hi"), string(bytes(32))
+ES256_KEY = mapped([(b"\x01", b"\x02"), (b"\x02", string(b"01")), (b"\x20", b"\x01"), (b"\x21", string(b"x")), (b"\x22", string(b"y"))])
 
 
 def mac0(unprotected=b"\xa0", protected=b"\x40", payload=PAYLOAD):
@@ -117,6 +119,12 @@ def sized(number):
     found["cose-gate", "keys"] = ([program("gate"), file(keys(number))], mac0())
     records = subprocess.run([program("ask")], input=mac0() * number, stdout=subprocess.PIPE, stderr=subprocess.DEVNULL).stdout
     found["cose-pass", "messages"] = ([program("pass"), file(records)], mac0() * number)
+    signed = array([string(b"\xa1\x01\x26"), mapped([(b"\x04", string(b"01"))]), string(b"signed")])
+    allowed = message(98, b"\x40", b"\xa0", [string(bytes(1_000)), array([signed] * number)])
+    found["cose-ask --keys", "signers"] = ([program("ask"), "--keys", file(array([ES256_KEY]))], allowed)
+    found["cose-ask --keys", "keys"] = ([program("ask"), "--keys", file(array([ES256_KEY] * number))], mac0())
+    digests = b"".join(hashlib.sha256(b"%d" % at).digest() for at in range(number))
+    found["cose-pass --digests", "digests"] = ([program("pass"), "--digests", file(digests)], mac0() * number)
     return found
 
 
