@@ -10,7 +10,7 @@ help() {
 $usage
 Gates the CBOR sequence INPUT in pieces side by side. PASSED gets the messages
 that pass, and LINES the lines of the gate, as one run writes them.
-  --try      with programs that are not proved, built in two minutes
+  --try      with programs that are not proved, built first
   -s SIZE    a piece has at least SIZE bytes, 67108864 if it is left out
   -j JOBS    so many gates at a time, else as many as there are processors; with
              -S on each machine
@@ -57,7 +57,8 @@ if [ -n "$logins" ] && [ $by = xargs ]; then
 fi
 keys=$1 aad=$2 input=$3 passed=$4 lines=$5
 
-# The programs are proved and built once, before several of them start.
+# The programs are proved and built once, before several of them start. As a package has it, they are those in PATH.
+[ -e "$top/scripts/proved.sh" ] || COSE_GATE=${COSE_GATE:-$(command -v cose-gate)} COSE_SHOW=${COSE_SHOW:-$(command -v cose-show)}
 export CALLED=many
 if [ -z "${COSE_GATE-}" ]; then
   bash "$top/scripts/proved.sh" cose-gate cose_gate_cli || exit

@@ -1,18 +1,18 @@
 /* cose_gate.h: the gate of COSE messages over memory (RFC 9052, RFC 8949). The library is out/libcose_gate_c.a of crates/cose_gate_c,
  * linked together with the kit's liblibc_c.a, which calls malloc, realloc and free. docs/LIBRARY.md.
  *
- * Buffers: all belong to the caller. A pointer is never NULL, not even with the length 0. `out`, `question`, `questions` and `lines` overlap
- *   nothing else that is passed in the same call; inputs may overlap. No length is above PTRDIFF_MAX. Nothing is kept after a call.
+ * Buffers: all belong to the caller. A pointer is never NULL, not even with the length 0 (COSE_GATE_NOTHING). `out`, `question`, `questions`,
+ *   `blocks`, `parts` and `lines` overlap nothing else that is passed in the same call; inputs may overlap. No length is above PTRDIFF_MAX.
+ *   Nothing is kept after a call.
  * Others: nobody else writes to an input while a call reads it, or to a message as long as what an answer tells of it, as its payload, is
  *   used. A mapped file is no copy, not even with MAP_PRIVATE: what others write to the file later shows in it, and if they shorten it a
  *   signal ends the process. So read the file into memory of your own, or into a sealed memfd (examples/c/sealed.h).
  * Memory: a call takes memory by malloc, realloc and free, and has given all of it back when it returns. If it runs out of memory, the last
- *   line is `stopped: memory`, in place of the one that the run ended with. A call holds one item, which a sender can make large: an item of
- *   small integers takes 32 times its bytes, one of many small signatures or recipients up to 180 times, and 320 times as its questions are
- *   told (docs/TIMES.md, "Memory").
+ *   line is `stopped: memory`, in place of the one that the run ended with. A call holds one item, which a sender can make large, at many
+ *   times its bytes (docs/TIMES.md, "Memory").
  *   cose_gate_stream_check and cose_gate_stream_ask hold no payload (the second as much of what is covered as `question` has bytes); they
  *   have no lines, and the fault is COSE_GATE_MEMORY.
- *   The three functions are those of one allocator, and malloc and realloc align to each power of two up to 16 that divides the size.
+ *   If you replace malloc, replace realloc and free too; align to 16 bytes, or below that to the largest power of two that divides the size.
  * Stack: with 256 levels and 16 layers each call was seen to take up to 179 KiB, on the worst messages of each shape that we could make; with
  *   the widest limits, 4,096 and 64, up to 6,160 KiB. What Rattle's own compiler builds takes up to 3,530 KiB and more (docs/TIMES.md, "Stack").
  *   Under a limit of the address space, the first thread has to use that much once before any call (docs/LIBRARY.md).
@@ -27,16 +27,22 @@
 #include <stddef.h>
 #include <stdint.h>
 
+/* The release, as in CHANGELOG.md. */
+#define COSE_GATE_VERSION "0.8"
+
+/* No bytes: a pointer and a length, for two arguments. */
+#define COSE_GATE_NOTHING ((const uint8_t *)""), ((size_t)0)
+
 #ifdef __cplusplus
 extern "C" {
 #endif
 
 /* The statuses: those of the program cose-gate, and one more. */
-enum {
+enum cose_gate_status {
   COSE_GATE_ALL_PASSED = 0,   /* no item was refused */
   COSE_GATE_SOME_REFUSED = 1, /* some were; what passed is written */
   COSE_GATE_LIMITS = 2,       /* `nesting` or `layers` is out of range; nothing was read */
-  COSE_GATE_KEYS = 3,         /* the bytes are not a key set, or not records; nothing was read */
+  COSE_GATE_KEYS = 3,         /* the bytes are not a key set, or neither records nor digests; nothing was read */
   COSE_GATE_STOPPED = 4,      /* an item can't be read, or memory ran out. What passed before is written; nothing if memory ran out for the
                                  output, the keys or the records */
   COSE_GATE_NO_ROOM = 5       /* the output is longer than its buffer, which stays as it was */
@@ -80,8 +86,8 @@ cose_gate_answer cose_gate_check(const uint8_t *keys, size_t keys_length,
 /* The two calls for signatures that the caller checks himself.
  *
  * cose_gate_ask tells the questions of the input: a record in `questions` for each signature or MAC over a message that is well formed, one
- * after another, in order. `lines` are those of a run in which every signature is good. With the statuses 0 and 1 all are told. With
- * COSE_GATE_STOPPED those before the place where the run stopped are told (if memory ran out at a message, perhaps some of its own too), and
+ * after another, in order. `lines` are those of a run in which every signature is good. With the statuses 0 and 1 all are there. With
+ * COSE_GATE_STOPPED those before the place where the run stopped are there (if memory ran out at a message, perhaps some of its own too), and
  * none if memory ran out for the records.
  *
  * A record is its length in eight bytes, the lowest first, and then that many bytes, its key: eight bytes with the message's tag, and seven
@@ -107,10 +113,42 @@ cose_gate_answer cose_gate_pass(const uint8_t *accepted, size_t accepted_length,
                                 uint8_t *lines, size_t lines_length,
                                 size_t nesting, size_t layers, bool strict);
 
+/* The same by the rules for headers and keys (docs/TOKENS.md, "The rules"), so that a caller only verifies signatures.
+ *
+ * cose_gate_ask_ruled does what `cose-ask --keys` does (docs/cose-ask.1): it writes a block for each item, which says whether the rules allow
+ * its signatures to be checked, or in words why not; and of each signature the algorithm, the keys of `keys` that fit, by their places, and
+ * the covered bytes. cose_gate_next_item reads a block, and cose_gate_next_signature a question of it. `lines` are those of a run in which
+ * every signature is good that the rules allow. The statuses are those of cose_gate_check; with COSE_GATE_STOPPED the blocks are those of the
+ * items before the place where the run stopped, and none if memory ran out for the blocks. They are linear in the input.
+ *
+ * cose_gate_key_parts writes the parts of all keys of a set: cose_gate_key_at shows those of the key at a place. COSE_GATE_ALL_PASSED: they are
+ * written. COSE_GATE_KEYS: the bytes are not a key set. COSE_GATE_STOPPED: memory ran out. COSE_GATE_NO_ROOM: as above.
+ *
+ * cose_gate_pass_digests takes the digests of the questions whose signatures are good, COSE_GATE_DIGEST bytes each, one after another, in any
+ * order, and writes the messages all of whose questions are among them. `aad`, the limits and `strict` are those of the call before. That two
+ * questions never have one digest is the usual assumption of SHA-256. COSE_GATE_KEYS: the length isn't a multiple of COSE_GATE_DIGEST. */
+enum { COSE_GATE_DIGEST = 32 };
+
+cose_gate_answer cose_gate_ask_ruled(const uint8_t *keys, size_t keys_length,
+                                     const uint8_t *aad, size_t aad_length,
+                                     const uint8_t *input, size_t input_length,
+                                     uint8_t *blocks, size_t blocks_length,
+                                     uint8_t *lines, size_t lines_length,
+                                     size_t nesting, size_t layers, bool strict);
+
+cose_gate_answer cose_gate_pass_digests(const uint8_t *accepted, size_t accepted_length,
+                                        const uint8_t *aad, size_t aad_length,
+                                        const uint8_t *input, size_t input_length,
+                                        uint8_t *out, size_t out_length,
+                                        uint8_t *lines, size_t lines_length,
+                                        size_t nesting, size_t layers, bool strict);
+
+cose_gate_answer cose_gate_key_parts(const uint8_t *keys, size_t keys_length, uint8_t *parts, size_t parts_length);
+
 /* One message that is checked in place: a firmware image in memory that nobody else writes, say ("Others" above).
  *
  * cose_gate_stream_check checks the message at the front of `message`: a COSE_Mac0 with its tag, 17, whose payload is a byte string that states
- * its length in front (RFC 9052, section 6.2). It judges as cose_gate_check does: by HMAC with SHA-256 under the first key of `keys` that fits.
+ * its length in front (RFC 9052, section 6.2). It decides as cose_gate_check does: by HMAC with SHA-256 under the first key of `keys` that fits.
  * The payload is hashed 4 KiB at a time, and never copied as a whole. The message is read once, to its end, before it is judged. What
  * comes after it is not read, and its tag doesn't cover that: all of an image is good only if `length` is also `message_length`.
  *
@@ -118,7 +156,7 @@ cose_gate_answer cose_gate_pass(const uint8_t *accepted, size_t accepted_length,
  * no MAC. With both `length` is how many bytes of `message` the message takes, and the payload is the `payload_length` bytes at
  * `message + payload`. COSE_GATE_LIMITS, COSE_GATE_KEYS: as above. COSE_GATE_STOPPED: no such message is at the front, or memory ran out;
  * `fault` says why. */
-enum {
+enum cose_gate_fault {
   COSE_GATE_NO_FAULT = 0,
   COSE_GATE_NOT_TAGGED = 1, /* the bytes don't begin with a tag */
   COSE_GATE_OTHER_TAG = 2,  /* they begin with another tag than 17 and 18 */
@@ -187,7 +225,18 @@ cose_gate_stream_question cose_gate_stream_ask(const uint8_t *aad, size_t aad_le
                                                size_t nesting, size_t layers);
 
 /* The kinds of messages that are asked about, by their tags (RFC 9052, section 2). */
-enum { COSE_GATE_MAC0 = 17, COSE_GATE_SIGN1 = 18, COSE_GATE_MAC = 97, COSE_GATE_SIGN = 98 };
+enum cose_gate_kind { COSE_GATE_MAC0 = 17, COSE_GATE_SIGN1 = 18, COSE_GATE_MAC = 97, COSE_GATE_SIGN = 98 };
+
+/* A status, and a fault, in words for a log. */
+static inline const char *cose_gate_status_text(uint32_t status) {
+  static const char *const texts[] = {"all passed", "some refused", "limits out of range", "no key set, records or digests", "stopped", "no room"};
+  return status < sizeof texts / sizeof texts[0] ? texts[status] : "unknown status";
+}
+
+static inline const char *cose_gate_fault_text(uint32_t fault) {
+  static const char *const texts[] = {"no fault", "not tagged", "other tag", "shape", "detached", "unsized", "decode", "memory"};
+  return fault < sizeof texts / sizeof texts[0] ? texts[fault] : "unknown fault";
+}
 
 /* Bytes in a record. */
 typedef struct cose_gate_text {
@@ -267,6 +316,83 @@ static inline bool cose_gate_stream_parts(const uint8_t *question, const cose_ga
   parts->covered.at = head.at + 8;
   parts->covered.length = head.length - 8;
   return cose_gate_next_text(&behind, &parts->signature) && behind.length == 0;
+}
+
+/* What a block says of an item. */
+typedef struct cose_gate_item {
+  uint64_t number;        /* which item it is, from 1 on */
+  uint64_t offset;        /* the offset of its first byte */
+  uint64_t end;           /* the offset after its last byte */
+  uint64_t asked;         /* how many of its signatures were asked about */
+  cose_gate_text verdict; /* in words: `passed` if the rules allow each signature to be checked, else `refused: ` and the reason */
+  cose_gate_text why;     /* in words: why the rules refuse a signature, or what is wrong with the message; may be empty */
+  cose_gate_text base;    /* the covered bytes of its first question */
+  cose_gate_text signatures; /* what cose_gate_next_signature takes; nothing if the item is refused */
+} cose_gate_item;
+
+/* A signature or MAC to verify: good if it is good under one of these keys. */
+typedef struct cose_gate_signature {
+  uint64_t kind;             /* the message's tag, COSE_GATE_MAC0, COSE_GATE_SIGN1 or COSE_GATE_SIGN */
+  int64_t algorithm;         /* as COSE numbers it (RFC 9053): -7 is ES256 */
+  cose_gate_text keys;       /* the places in KEYS of the keys that fit: what cose_gate_next_number takes */
+  cose_gate_text covered[3]; /* the signature or MAC covers these, one after another (RFC 9052, sections 4.4 and 6.3) */
+  cose_gate_text signature;  /* the signature or MAC */
+  const uint8_t *digest;     /* COSE_GATE_DIGEST bytes, for cose_gate_pass_digests if it is good */
+} cose_gate_signature;
+
+/* The parts of a key, as big-endian byte strings; empty if the key has none. A y that is only a sign isn't shown. */
+typedef struct cose_gate_key {
+  cose_gate_text n_or_k; /* n of an RSA key, k of a symmetric one */
+  cose_gate_text x_or_e; /* x of a key on a curve, e of an RSA key */
+  cose_gate_text y;      /* y of a key on a curve of two coordinates (EC2) */
+} cose_gate_key;
+
+/* Takes a number off the front of `*rest`. */
+static inline bool cose_gate_next_number(cose_gate_text *rest, uint64_t *number) {
+  if (rest->length < 8) {
+    return false;
+  }
+  *number = cose_gate_number(rest->at);
+  rest->at += 8;
+  rest->length -= 8;
+  return true;
+}
+
+/* Takes the next block off the front of `*rest`, of what cose_gate_ask_ruled wrote; false if there is none. */
+static inline bool cose_gate_next_item(cose_gate_text *rest, cose_gate_item *item) {
+  return cose_gate_next_text(rest, &item->signatures) && cose_gate_next_number(&item->signatures, &item->number) &&
+         cose_gate_next_number(&item->signatures, &item->offset) && cose_gate_next_number(&item->signatures, &item->end) &&
+         cose_gate_next_number(&item->signatures, &item->asked) && cose_gate_next_text(&item->signatures, &item->verdict) &&
+         cose_gate_next_text(&item->signatures, &item->why) && cose_gate_next_text(&item->signatures, &item->base);
+}
+
+/* Takes the next question off an item; false if there is none. */
+static inline bool cose_gate_next_signature(cose_gate_item *item, cose_gate_signature *one) {
+  cose_gate_text rest;
+  uint64_t algorithm, front, back;
+  if (!cose_gate_next_text(&item->signatures, &rest) || !cose_gate_next_number(&rest, &one->kind) || !cose_gate_next_number(&rest, &algorithm) ||
+      !cose_gate_next_text(&rest, &one->keys) || !cose_gate_next_number(&rest, &front) || !cose_gate_next_number(&rest, &back) ||
+      !cose_gate_next_text(&rest, &one->covered[1]) || !cose_gate_next_text(&rest, &one->signature) || rest.length != COSE_GATE_DIGEST ||
+      front > item->base.length || back > item->base.length) {
+    return false;
+  }
+  one->algorithm = (int64_t)algorithm;
+  one->covered[0].at = item->base.at;
+  one->covered[0].length = (size_t)front;
+  one->covered[2].at = item->base.at + back;
+  one->covered[2].length = item->base.length - (size_t)back;
+  one->digest = rest.at;
+  return true;
+}
+
+/* The key at this place in KEYS, of the parts that cose_gate_key_parts wrote; false if there is none. */
+static inline bool cose_gate_key_at(cose_gate_text parts, uint64_t place, cose_gate_key *key) {
+  do {
+    if (!cose_gate_next_text(&parts, &key->n_or_k) || !cose_gate_next_text(&parts, &key->x_or_e) || !cose_gate_next_text(&parts, &key->y)) {
+      return false;
+    }
+  } while (place-- > 0);
+  return true;
 }
 
 #ifdef __cplusplus

@@ -9,7 +9,7 @@
 #             it, and looks at its calls too
 #   users     the rows below: the programs as a user runs them
 #   tools     tools/test.sh: cose-verify, cose-key and cose-make, over the programs
-#   try       try.sh: cose-gate built unproved
+#   try       try.sh, as README.md calls it: cose-gate built unproved
 # It says how long each took, what is left out for want of a tool, and of what fails how to run it by hand; status 1 if a step fails.
 # CRATES is another folder of crates with such out/.
 set -u
@@ -32,7 +32,7 @@ rows() {
 0|||cose-ask --help | cmp - <(../cose-ask --help) && cose-ask -h | cmp - <(../cose-ask --help)
 0|||cose-pass --help | cmp - <(../cose-pass --help) && cose-pass -h | cmp - <(../cose-pass --help)
 0|||cose-show --json --help | cmp - <(../cose-show --help) && cose-show -h | cmp - <(../cose-show --help)
-0|||for name in gate ask pass show sift; do cose-$name --version; done | cmp - <(printf 'cose-%s 0.8\n' gate ask pass show sift)
+0|||for name in gate ask pass show sift; do cose-$name --version && ../cose-$name --version; done | cmp - <(printf "cose-%s $(cat ../VERSION)\n" {gate,ask,pass,show,sift}{,})
 2|/dev/null|usage: cose-gate [--strict] [--verbose] [--quiet] KEYS [AADHEX] < INPUT > PASSED|cose-gate --strict
 2|/dev/null|usage: cose-gate [--strict] [--verbose] [--quiet] KEYS [AADHEX] < INPUT > PASSED|cose-gate keys.cbor 01 02 < one.cbor
 2|/dev/null|usage: cose-gate [--strict] [--verbose] [--quiet] KEYS [AADHEX] < INPUT > PASSED|cose-gate keys.cbor $'\xff' < one.cbor
@@ -40,14 +40,14 @@ rows() {
 2|/dev/null|usage: cose-gate [--strict] [--verbose] [--quiet] KEYS [AADHEX] < INPUT > PASSED|cose-gate keys.cbor --strikt < one.cbor
 2|/dev/null|usage: cose-gate --stream [--payload FILE] [--verbose] KEYS [AADHEX] < MESSAGE|cose-gate --stream --strict keys.cbor < one.cbor
 2|/dev/null|usage: cose-gate --stream [--payload FILE] [--verbose] KEYS [AADHEX] < MESSAGE|../cose-gate --stream --payload keys.cbor < one.cbor
-2|/dev/null|       cose-ask --keys KEYS [--strict] [AADHEX]|cose-ask --strikt < one.cbor
-2|/dev/null|       cose-ask --keys KEYS [--strict] [AADHEX]|cose-ask 01 02 < one.cbor
-2|/dev/null|       cose-ask --keys KEYS [--strict] [AADHEX]|cose-ask $'\xff' < one.cbor
-2|/dev/null|       cose-ask --keys KEYS [--strict] [AADHEX]|../cose-ask --strikt
-2|/dev/null|       cose-ask --keys KEYS [--strict] [AADHEX]|cose-ask --keys < one.cbor
-2|/dev/null|       cose-ask --keys KEYS [--strict] [AADHEX]|cose-ask --keys keys.cbor --lines 01 < one.cbor
-2|/dev/null|       cose-ask --keys KEYS [--strict] [AADHEX]|cose-ask --strict --keys keys.cbor < one.cbor
-2|/dev/null|       cose-ask --keys KEYS [--strict] [AADHEX]|../cose-ask --keys keys.cbor --fields
+2|/dev/null|       cose-ask --keys KEYS [--strict] [AADHEX] [--cwt TERMS]|cose-ask --strikt < one.cbor
+2|/dev/null|       cose-ask --keys KEYS [--strict] [AADHEX] [--cwt TERMS]|cose-ask 01 02 < one.cbor
+2|/dev/null|       cose-ask --keys KEYS [--strict] [AADHEX] [--cwt TERMS]|cose-ask $'\xff' < one.cbor
+2|/dev/null|       cose-ask --keys KEYS [--strict] [AADHEX] [--cwt TERMS]|../cose-ask --strikt
+2|/dev/null|       cose-ask --keys KEYS [--strict] [AADHEX] [--cwt TERMS]|cose-ask --keys < one.cbor
+2|/dev/null|       cose-ask --keys KEYS [--strict] [AADHEX] [--cwt TERMS]|cose-ask --keys keys.cbor --lines 01 < one.cbor
+2|/dev/null|       cose-ask --keys KEYS [--strict] [AADHEX] [--cwt TERMS]|cose-ask --strict --keys keys.cbor < one.cbor
+2|/dev/null|       cose-ask --keys KEYS [--strict] [AADHEX] [--cwt TERMS]|../cose-ask --keys keys.cbor --fields
 2|/dev/null|usage: cose-pass [--digests] [--strict] ACCEPTED [AADHEX]|cose-pass
 2|/dev/null|usage: cose-pass [--digests] [--strict] ACCEPTED [AADHEX]|cose-pass --strikt /dev/null < one.cbor
 2|/dev/null|usage: cose-pass [--digests] [--strict] ACCEPTED [AADHEX]|cose-pass /dev/null $'\xff' < one.cbor
@@ -255,6 +255,9 @@ rows() {
 70|/dev/null|install.sh: rt isn't in PATH: it comes with Rattle's kit, KIT/bin|cp -r $T/built/. $T/copy/crates && PATH=$bare bash $T/copy/scripts/install.sh $T/made
 0|||bash $T/copy/scripts/proved.sh --left && umask 077 && PATH=$bare bash $T/copy/scripts/install.sh $T/made && $T/made/bin/cose-gate -h | cmp - <(cose-gate -h) && ! find $T/made ! -perm -o=r | grep .
 0|||export GIT_DIR=$(git rev-parse --absolute-git-dir); umask 077; PATH=$bare bash $T/copy/scripts/package.sh $T/made && ! tar -tvf $T/made/*.gz | grep -v '^.r.xr.xr.x\|^-rw-r--r--' && [ -e $T/made/*.deb -o ! -x /usr/bin/dpkg-deb ]
+0|||mkdir $T/package && tar -C $T/package -xf $T/made/*.gz && cd $T/package/usr/share/doc/cose-gate && ls $(grep -oE '(docs|examples)/[A-Za-z0-9_./-]*[a-z0-9]' README.md) && [[ "$(cat ../../../lib/cose-gate/version)" == "$(cat $T/copy/VERSION) ("* ]]
+# completion: of options, algorithms and files
+0|||. ../scripts/completion.bash; try() { COMP_WORDS=("$@") COMP_CWORD=$(($# - 1)); _cose_gate "$1"; echo "${COMPREPLY[*]}"; }; [ "$(try cose-gate --st; try cose-gate ke)" = $'--stream --strict\nkeys.cbor' ]
 70|/dev/null|package.sh: rt isn't in PATH: it comes with Rattle's kit, KIT/bin|sed -i 's/usize/u64/' $T/copy/crates/ciborium_ll/src/dec.rt && touch -d 2000-01-01 $T/copy/crates/ciborium_ll/src/dec.rt && PATH=$bare bash $T/copy/scripts/package.sh $T/made
 # a live pipe: what passed and its line are out before more is waited for, though half of the next item is there; a signal loses neither
 124|one.cbor|item 1 at 0: passed|{ cat one.cbor; sleep 3; } | timeout 2 cose-gate keys.cbor 01
@@ -266,8 +269,50 @@ rows() {
 END
   if (command -v openssl && command -v xxd && python3 -c 'import cryptography') > /dev/null 2>&1; then
     echo '0|||ASK=cose-ask PASS=cose-pass bash signatures/run.sh'
+    echo '0|||python3 ../scripts/readme.py'
   else
-    echo 'after-ci.sh: no openssl, xxd or python3-cryptography, so examples/signatures is left out' >&2
+    echo 'after-ci.sh: no openssl, xxd or python3-cryptography, so examples/signatures and the commands of README.md are left out' >&2
+  fi
+  if (command -v openssl && command -v xxd && /usr/bin/python3 -c 'import cryptography') > /dev/null 2>&1; then
+    cat <<'END'
+# cose-key and cose-make: what is wrong, and how to go on
+2|/dev/null|  cose-key --help has all options|../tools/cose-key 2> $T/said; s=$?; head -n 1 $T/said | grep -q '^usage: cose-key \[FILE' && grep -qx '  no key: name a file, or --new ALG' $T/said; tail -n 1 $T/said >&2; exit $s
+2|/dev/null|  cose-make --help has all options|../tools/cose-make --strikt --key keys.cbor 2> $T/said; s=$?; grep -qx '  --strikt: no such option' $T/said && tail -n 1 $T/said >&2; exit $s
+3|/dev/null|cose-key: nosuch: no such file|../tools/cose-key nosuch
+3|/dev/null|cose-key: /dev/null: it is empty|../tools/cose-key /dev/null
+3|/dev/null|cose-key: one.cbor: no PEM, DER, ssh or JWK, and as a COSE_Key: it is no key or set of keys; of a secret cose-key raw:FILE makes one, or hex:FILE if it is in hex|../tools/cose-key one.cbor
+3|/dev/null|cose-key: --kid, --alg and --pem are for one key, and there are 2: 01|../tools/cose-key keys.cbor --kid 02
+3|/dev/null|cose-make: keys.cbor has 2 keys, none with 3032 ("02"): 01|../tools/cose-make --key keys.cbor --kid 02 --payload one.cbor
+3|/dev/null|cose-make: keys.cbor: the key isn't for HS256: its operations don't have this one|../tools/cose-make --key keys.cbor --kid 01 --payload one.cbor
+0|/dev/null||printf '%02x' {0..31} | ../tools/cose-key hex:- --kid 01 --alg HS256 -o $T/one.key
+0|one.cbor||printf hi | ../tools/cose-make --key $T/one.key --aad 01 --payload -
+3|/dev/null|cose-make: --cwt: not JSON at character 1; to read the file README.md: --cwt @README.md|../tools/cose-make --key $T/one.key --cwt README.md
+3|/dev/null|cose-make: README.md: not JSON at character 1|../tools/cose-make --key $T/one.key --cwt @README.md
+4|/dev/null|cose-make: $T/said: it is there already|../tools/cose-make --key $T/one.key --payload one.cbor -o $T/said
+4||cose-make: standard output: No space left on device|../tools/cose-make --key $T/one.key --payload one.cbor > /dev/full
+4|||../tools/cose-make --key $T/one.key --payload one.cbor >&4
+# cose-verify: what it takes, writes and says
+2|/dev/null|  cose-verify --help has all options|../tools/cose-verify one.cbor 2> $T/said; s=$?; grep -qx '  --keys/--key is missing' $T/said && tail -n 1 $T/said >&2; exit $s
+2|/dev/null|  cose-verify --help has all options|../tools/cose-verify --keys keys.cbor --now one.cbor 2> $T/said; s=$?; grep -q "^  --now: 'one.cbor' is no time, .*--cwt" $T/said && tail -n 1 $T/said >&2; exit $s
+3|/dev/null|cose-verify: nosuch: no such file|../tools/cose-verify --keys keys.cbor nosuch
+3|/dev/null|cose-verify: nosuch: no such file|../tools/cose-verify --key nosuch one.cbor
+1|/dev/null|refused: the input is empty|../tools/cose-verify --keys keys.cbor --one /dev/null
+0|one.cbor|passed 1, refused 0|../tools/cose-verify --keys keys.cbor --aad 01 one.cbor 2> $T/said; s=$?; grep -qx 'item 1 at 0: passed: HS256, 3031 ("01")' $T/said && cat $T/said >&2; exit $s
+0||passed 1, refused 0|../tools/cose-verify --keys keys.cbor --aad 01 --quiet --json one.cbor | cmp - <(echo '{"item": 1, "offset": 0, "verdict": "passed", "signatures": [{"alg": "HS256", "kid_hex": "3031", "kid": "01"}], "payload_hex": "6869", "payload": "hi"}')
+0|one.cbor|passed 1, refused 0|printf hi > $T/hi; printf hi | ../tools/cose-make --key $T/one.key --aad 01 --detached --payload - | ../tools/cose-verify --keys keys.cbor --aad 01 --payload $T/hi
+1|/dev/null|passed 0, refused 1|../tools/cose-verify --keys keys.cbor --aad 01 --payload keys.cbor one.cbor
+# the commands of the package's README, by what it holds
+0|||mkdir $T/in && cd $T/in && PATH=$T/package/usr/bin:$PATH bash <(sed -n 's/^    //p' $T/package/usr/share/doc/cose-gate/README.md | sed "s#/usr/share#$T/package/usr/share#"); cmp token.cbor good.cbor && [ -s accepted ] && [ -s message.cbor ] && [ ! -s passed.cbor ]
+END
+  else
+    echo 'after-ci.sh: no openssl, xxd or python3-cryptography, so cose-key, cose-make and the commands of the package are left out' >&2
+  fi
+  if [ "${1-}" ]; then
+    :
+  elif (command -v lintian && command -v dpkg-deb) > /dev/null; then
+    echo '0|||lintian --fail-on error,warning $T/made/*.deb'
+  else
+    echo 'after-ci.sh: no lintian or dpkg-deb, so what lintian says of the package is left out' >&2
   fi
   if /usr/bin/python3 -c 'import distributed' 2> /dev/null; then
     echo '4||stopped: decode: Io(EndOfFile)|cat mixed.cbor cut.cbor > $T/torn; COSE_GATE=cose-gate COSE_SHOW=cose-show python/dask_gate.py' \
@@ -277,7 +322,7 @@ END
     echo 'after-ci.sh: no python3-distributed, so examples/python/dask_gate.py is left out' >&2
   fi
   if command -v systemd-analyze > /dev/null; then
-    echo '0|||mkdir $T/units && cp service/* $T/units && sed -i "s#/usr/bin/#$T/bin/#" $T/units/* && ! systemd-analyze verify $T/units/* 2>&1 | grep cose-gate'
+    echo '0|||mkdir $T/units && cp service/* $T/units && sed -i "s#/usr/bin/#$T/bin/#" $T/units/* && [ -z "$(systemd-analyze verify --man=no $T/units/* 2>&1 | grep cose-gate)" ]'
     echo '0|||systemd-analyze security --offline=true --threshold=5 service/cose-gate@.service > /dev/null'
   else
     echo 'after-ci.sh: no systemd-analyze, so examples/service is left out' >&2
@@ -306,7 +351,7 @@ go_through() {
     echo "after-ci.sh: status $found, to be $status${last:+; last line \`$line\`, to be \`$last\`}${output:+; output of $(wc -c < "$T/out") bytes, to be $output}:" \
       "in examples/, cose-X being cose_X_cli$1 (cose_show$1): $command"
     bad=1
-  done < <(rows)
+  done < <(rows "$1")
   exec 4>&-
 }
 
@@ -325,8 +370,9 @@ refused() { bash "$top/scripts/fail-alloc.sh"; }
 tools() { bash "$top/tools/test.sh"; }
 try() {
   local status=0
-  cd "$top/examples" && bash "$top/scripts/try.sh" cose-gate keys.cbor 01 < mixed.cbor > "$folder/tried" || status=$?
-  [ $status = 1 ] && cmp "$folder/tried" "$top/crates/cose_gate_cli/stdout" && echo "the same as the proved program"
+  mkdir "$folder/tried" && ln -s "$top/scripts" "$top/examples" "$folder/tried" && cd "$folder/tried" || return
+  bash -c "$(sed -n 's/^    \$ \(bash scripts.*\)/\1/p' "$top/README.md")" || status=$?
+  [ $status = 1 ] && cmp passed.cbor "$top/crates/cose_gate_cli/stdout" && echo "the same as the proved program"
 }
 library() { bash "$top/scripts/c-library.sh" left c python image compare memory; }
 

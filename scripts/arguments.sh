@@ -1,9 +1,9 @@
 # arguments.sh: for the scripts cose-gate, cose-show, cose-ask, cose-pass and cose-sift: what they find in arguments before a program is built. To be
 # sourced, with the top of the repository in $top.
 
-# The name of a program, the commit of the sources, and the kit.
+# What the program itself says.
 say_version() {
-  echo "$1 (commit $(git -C "$top" rev-parse --short HEAD 2> /dev/null || echo unknown), $(rt version 2> /dev/null || echo 'no kit in PATH'))"
+  echo "$1 $(cat "$top/VERSION")"
 }
 
 # Ends with status 3 if a file can't be read: the program's own line NAME, and then why.

@@ -1,6 +1,6 @@
 """c-compare.py compare TOP LIBRARY PROGRAM: the library's answers against those of the program, byte for byte, over the rows `run` of
 conformance_gate, and over 1,000 mutated sequences; the length of buffer that each needs; and that with all questions accepted all that the judge lets
-through passes. Status 1 if one differs. c-compare.py write TOP FOLDER: writes the 1,000 mutated sequences into files of the folder."""
+through passes, and with those that the rules allow no more. Status 1 if one differs. c-compare.py write TOP FOLDER: writes the 1,000 mutated sequences into files of the folder."""
 
 import random
 import re
@@ -10,7 +10,7 @@ import tempfile
 
 what, top, *rest = sys.argv[1:]
 sys.path.insert(0, f"{top}/examples/python")
-from cose_gate import Gate, GateError, LimitsError, NoRoomError, StoppedError, questions_of  # noqa: E402
+from cose_gate import Gate, GateError, LimitsError, NoRoomError, StoppedError, items_of, questions_of  # noqa: E402
 
 random.seed(39)
 seeds = [open(f"{top}/examples/{name}.cbor", "rb").read() for name in ("mixed", "one", "cut")]
@@ -105,6 +105,13 @@ def asks(aad, input):
     assert len(passed) >= len(answer_of(gate.check, keys, aad, input))
     assert all(question.kind in (17, 18, 97, 98) and question.covered for question in questions)
     assert answer_of(gate.pass_accepted, [], aad, input) == b""
+    try:
+        items = gate.ask_ruled(keys, aad, input)
+    except StoppedError as fault:
+        items = list(items_of(fault.passed))
+    digests = [one.digest for item in items for one in item.signatures]
+    ruled = answer_of(gate.pass_digests, digests, aad, input)
+    assert (ruled == b"") == (digests == []) and len(ruled) <= len(passed)
 
 
 def of_hex(word):

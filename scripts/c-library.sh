@@ -2,6 +2,7 @@
 # c-library.sh [left] STEP..: proves and builds the static library cose_gate_c if a source of it has changed, and then builds and runs what
 # each step asks, with the tools that are there; it says which are not. Without a step it says how it is used (status 2).
 #   c, rust, go, python   the example of that language on examples/mixed.cbor: status 1, four messages passed; of Python also es256.py
+#   es256                 examples/c/es256.c, with OpenSSL's libcrypto: signed messages of examples/signatures/make.py, two keys of one key id
 #   image                 examples/c/image.c, question.c and the streaming calls of cose_gate.py over good, changed and cut images, one of 64 MiB
 #   compare               what the examples in these languages, or all, give against what the program gives, over examples/*.cbor; the library's
 #                         shared object against the program over the rows `run` of conformance_gate, and over 1,000 mutated sequences
@@ -33,7 +34,7 @@ what=
 for word; do
   case $word in
     left) left=yes ;;
-    c | rust | go | python | image | compare | memory | valgrind) what="$what $word " ;;
+    c | rust | go | python | es256 | image | compare | memory | valgrind) what="$what $word " ;;
     *)
       what=
       break
@@ -41,7 +42,7 @@ for word; do
   esac
 done
 if [ -z "$what" ]; then
-  echo "usage: scripts/c-library.sh [left] STEP.., and STEP is c, rust, go, python, image, compare, memory or valgrind" >&2
+  echo "usage: scripts/c-library.sh [left] STEP.., and STEP is c, rust, go, python, es256, image, compare, memory or valgrind" >&2
   exit 2
 fi
 
@@ -98,7 +99,9 @@ build_of() { gcc -std=c11 -O2 -Wall -Wextra -Werror -I "$top/include" "$top/exam
 build_c() { build_of check; }
 build_python() { gcc -shared -o "$made/libcose_gate.so" -Wl,--whole-archive "$archive" -Wl,--no-whole-archive "$libc"; }
 build_rust() {
-  (cd "$top/examples/rust" && COSE_GATE_LIBRARY=$archive RATTLE_LIBC=$libc cargo build --quiet --release --offline --target-dir "$made/rust")
+  for it in build test; do
+    (cd "$top/examples/rust" && COSE_GATE_LIBRARY=$archive RATTLE_LIBC=$libc cargo $it --quiet --release --offline --target-dir "$made/rust") > /dev/null || fails "cargo $it"
+  done
   cp "$made/rust/release/check" "$made/check_rust"
 }
 build_go() {
@@ -151,6 +154,36 @@ if wants python && has gcc; then
     echo "c-library.sh: es256.py: $(echo "$said" | tail -n 1)"
   else
     lacks "python3 with cbor2 and cryptography (Debian's python3-cbor2, python3-cryptography)" "es256.py"
+  fi
+fi
+
+# What es256 passes of a file under a key set, to $made/es256.out, if status and lines are those that are due.
+es256() {
+  local status=0
+  "$made/es256_c" "$1" "$2" > "$made/es256.out" 2> "$made/es256.err" || status=$?
+  [ "$status $(sed 's/ at [0-9]*//' "$made/es256.err" | paste -sd '|')" = "$3" ] || fails "es256 on ${2##*/}: $status, $(cat "$made/es256.err")"
+}
+if wants es256; then
+  if has gcc && has python3 && printf '#include <openssl/param_build.h>\n' | gcc -E - > /dev/null 2>&1 && /usr/bin/python3 -c 'import cryptography' 2> /dev/null; then
+    grep -q "\"$(sed -n 's/^## //p' "$top/CHANGELOG.md" | head -n 1)\"" "$top/include/cose_gate.h" || fails "COSE_GATE_VERSION is another release"
+    gcc -std=c11 -O2 -Wall -Wextra -Werror -I "$top/include" "$top/examples/c/es256.c" "$archive" "$libc" -lcrypto -o "$made/es256_c"
+    signed=$made/signed
+    rm -rf "$signed"
+    /usr/bin/python3 "$top/examples/signatures/make.py" "$signed"
+    for key in "$signed"/keys/*.pem; do mv "$key" "${key%/*}/hex:${key##*/}"; done
+    "$top/tools/cose-key" "$signed/keys" > "$signed/keys.cbor"
+    no="refused: Judged"
+    es256 "$signed/keys.cbor" "$signed/signed.cbor" \
+      "1 item 1: passed|item 2: $no|item 3: $no|item 4: $no|item 5: refused: NotTagged|item 6: $no|item 7: $no|passed 1, refused 6"
+    cmp -s "$made/es256.out" <(head -c "$(stat -c %s "$made/es256.out")" "$signed/signed.cbor") || fails "es256 passes other bytes than the first item"
+    for name in first second; do "$top/tools/cose-key" --new ES256 --kid 11 -o "$signed/$name.cbor"; done
+    "$top/tools/cose-key" "$signed/first.cbor" "$signed/second.cbor" > "$signed/both.cbor" 2> /dev/null
+    printf hello | "$top/tools/cose-make" --key "$signed/second.cbor" --payload - > "$signed/hello.cbor"
+    es256 "$signed/both.cbor" "$signed/hello.cbor" "0 item 1: passed|passed 1, refused 0"
+    es256 "$signed/signed.cbor" "$signed/hello.cbor" "3 no key set, records or digests"
+    echo "c-library.sh: es256 passes what is well signed, and nothing else"
+  else
+    lacks "gcc, libcrypto's headers, python3 or python3-cryptography" "the example es256"
   fi
 fi
 

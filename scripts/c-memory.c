@@ -1,5 +1,5 @@
 /* c-memory.c: KEYS FILE..: the library under tools that watch memory, over each file: output buffers from none to more than is needed, with bytes
- * after them that must stay as they are; the questions, all of which are then accepted; and the message at its front in place, which the gate
+ * after them that must stay as they are; the questions, all of which are then accepted; those that the rules allow, likewise; and the message at its front in place, which the gate
  * has to judge the same, and whose question has to be the same. With -DREFUSE each malloc and realloc is refused in turn, over the first file,
  * no block may be left, and the last line, or the fault, has to say it, after whole lines of the run. */
 #define _GNU_SOURCE
@@ -65,9 +65,17 @@ static cose_gate_answer call(int which, bytes given, bytes input, bytes out, byt
     case 1:
       return cose_gate_ask(aad, 1, input.at, input.length, out.at, out.length, lines.at, lines.length, COSE_GATE_NESTING,
                            COSE_GATE_LAYERS, false);
-    default:
+    case 2:
       return cose_gate_pass(given.at, given.length, aad, 1, input.at, input.length, out.at, out.length, lines.at, lines.length,
                             COSE_GATE_NESTING, COSE_GATE_LAYERS, false);
+    case 3:
+      return cose_gate_ask_ruled(given.at, given.length, aad, 1, input.at, input.length, out.at, out.length, lines.at, lines.length,
+                                 COSE_GATE_NESTING, COSE_GATE_LAYERS, false);
+    case 4:
+      return cose_gate_pass_digests(given.at, given.length, aad, 1, input.at, input.length, out.at, out.length, lines.at, lines.length,
+                                    COSE_GATE_NESTING, COSE_GATE_LAYERS, false);
+    default:
+      return cose_gate_key_parts(given.at, given.length, out.at, out.length);
   }
 }
 
@@ -131,6 +139,32 @@ static size_t count_of(bytes records) {
   return count;
 }
 
+/* The digests of all questions that blocks show. The blocks go over the items in order, without a gap; each question has a key. */
+static bytes digests_of(bytes blocks) {
+  bytes digests = room_of(blocks.length);
+  cose_gate_text rest = {blocks.at, blocks.length};
+  cose_gate_item item;
+  uint64_t number = 0, end = 0;
+  digests.length = 0;
+  while (cose_gate_next_item(&rest, &item)) {
+    cose_gate_signature one;
+    assert(item.number == ++number && item.offset == end && item.end > end);
+    end = item.end;
+    bool is_allowed = item.verdict.length == 6 && memcmp(item.verdict.at, "passed", 6) == 0;
+    for (uint64_t asked = 0; cose_gate_next_signature(&item, &one); asked++) {
+      uint64_t place;
+      cose_gate_text places = one.keys;
+      assert(is_allowed && asked < item.asked && one.covered[0].length + one.covered[1].length + one.covered[2].length > 0);
+      assert(cose_gate_next_number(&places, &place));
+      memcpy(digests.at + digests.length, one.digest, COSE_GATE_DIGEST);
+      digests.length += COSE_GATE_DIGEST;
+    }
+    assert(item.signatures.length == 0 && (is_allowed || item.base.length == 0));
+  }
+  assert(rest.length == 0);
+  return digests;
+}
+
 /* All calls over one input. How many questions it has. */
 static size_t each_call(bytes input, bool all) {
   bytes passed = each_room(0, keys, input, all), records = each_room(1, keys, input, all);
@@ -138,6 +172,11 @@ static size_t each_call(bytes input, bool all) {
   bytes none = each_room(2, nothing, input, all);
   assert(accepted.length >= passed.length && none.length == 0);
   size_t count = count_of(records);
+  bytes blocks = each_room(3, keys, input, all), digests = digests_of(blocks), ruled = each_room(4, digests, input, all);
+  assert(ruled.length <= accepted.length && (digests.length == 0) == (ruled.length == 0));
+  free(blocks.at);
+  free(digests.at);
+  free(ruled.at);
   free(passed.at);
   free(records.at);
   free(accepted.at);
@@ -268,7 +307,8 @@ static void each_refused_asked(bytes input) {
 
 static void each_refused(int which, bytes given, bytes input) {
   static uint8_t room[65536], text[4096], whole[4096];
-  static const char *const names[] = {"cose_gate_check", "cose_gate_ask", "cose_gate_pass"}, said[] = "stopped: memory\n";
+  static const char *const names[] = {"cose_gate_check", "cose_gate_ask", "cose_gate_pass", "cose_gate_ask_ruled",
+                                      "cose_gate_pass_digests"}, said[] = "stopped: memory\n";
   bytes out = {room, sizeof room}, lines = {text, sizeof text};
   is_watched = 1;
   calls = 0;
@@ -303,6 +343,12 @@ int main(int count, char **words) {
   assert(count >= 3);
   keys = read_file(words[1]);
   size_t questions = 0;
+  bytes nothing = {keys.at, 0}, parts = each_room(5, keys, nothing, true);
+  cose_gate_key key;
+  cose_gate_text all = {parts.at, parts.length};
+  assert(cose_gate_key_at(all, 0, &key) && key.n_or_k.length == 32 && key.x_or_e.length == 0 && key.y.length == 0);
+  assert(cose_gate_key_at(all, 1, &key) && key.n_or_k.length == 1 && !cose_gate_key_at(all, 2, &key));
+  free(parts.at);
   for (int i = 2; i < count; i++) {
     bytes input = read_file(words[i]);
     questions += each_call(input, i == 2);
@@ -317,6 +363,12 @@ int main(int count, char **words) {
   each_refused(0, keys, input);
   each_refused(1, keys, input);
   each_refused(2, records, input);
+  free(lines.at);
+  bytes blocks = exactly(3, keys, input, &lines, &status), digests = digests_of(blocks);
+  each_refused(3, keys, input);
+  each_refused(4, digests, input);
+  free(blocks.at);
+  free(digests.at);
   each_refused_in_place(input);
   each_refused_asked(input);
   free(input.at);

@@ -1,7 +1,7 @@
 /* c-stack.c: KEYS NESTING LAYERS FILE..: the stack that each call of the library takes over each file, in a thread whose stack is filled with a
- * pattern before; a thread's start is among it. A line for each file: its bytes for cose_gate_check, cose_gate_ask, cose_gate_pass with the
- * records that cose_gate_ask gave, and for cose_gate_stream_check or cose_gate_stream_ask, whichever takes more; and what the program would
- * say of its first message. */
+ * pattern before; a thread's start is among it. A line for each file: its bytes for cose_gate_check, for cose_gate_ask or cose_gate_ask_ruled,
+ * for cose_gate_pass with the records that cose_gate_ask gave or cose_gate_pass_digests, and for cose_gate_stream_check or
+ * cose_gate_stream_ask, whichever takes more; and what the program would say of its first message. */
 #define _GNU_SOURCE
 #include "cose_gate.h"
 
@@ -50,6 +50,14 @@ static void *on_stack(void *unused) {
     case 1:
       answer = cose_gate_ask(keys.at, 0, input.at, input.length, to->at, MOST, lines.at, MOST, nesting, layers, false);
       break;
+    case 5:
+      answer = cose_gate_ask_ruled(keys.at, keys.length, keys.at, 0, input.at, input.length, to->at, MOST, lines.at, MOST, nesting, layers,
+                                   false);
+      break;
+    case 6: /* any digests */
+      answer = cose_gate_pass_digests(records.at, records.length / COSE_GATE_DIGEST * COSE_GATE_DIGEST, keys.at, 0, input.at, input.length,
+                                      to->at, MOST, lines.at, MOST, nesting, layers, false);
+      break;
     default:
       answer = cose_gate_pass(records.at, records.length, keys.at, 0, input.at, input.length, to->at, MOST, lines.at, MOST, nesting, layers,
                               false);
@@ -78,6 +86,8 @@ static size_t stack_of(int call) {
   return STACK - left;
 }
 
+static size_t larger(size_t a, size_t b) { return a > b ? a : b; }
+
 int main(int count, char **words) {
   assert(count > 4);
   read_file(words[1], &keys);
@@ -89,8 +99,8 @@ int main(int count, char **words) {
     char line[64] = {0};
     size_t length = strcspn((char *)lines.at, "\n");
     memcpy(line, lines.at, length < 63 ? length : 63);
-    size_t ask = stack_of(1), pass = stack_of(2), checked = stack_of(3), asked = stack_of(4);
-    printf("%zu %zu %zu %zu %s\n", check, ask, pass, checked > asked ? checked : asked, line);
+    size_t ask = larger(stack_of(1), stack_of(5)), pass = larger(stack_of(2), stack_of(6));
+    printf("%zu %zu %zu %zu %s\n", check, ask, pass, larger(stack_of(3), stack_of(4)), line);
   }
   return 0;
 }

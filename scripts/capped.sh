@@ -8,7 +8,8 @@
 # - The gate reads 1,000,000 items under the least heap for 1,000 of them, and a message with 64 text labels under that for one with none.
 #   The streaming check reads a payload of 16 MiB under the least heap for one of 0 bytes, and with `--payload` it writes one of 8 MiB under
 #   that for one of 0 bytes. `cose-sift` leaves out an item of 8 MiB under 2 MiB more than a small one needs, and 65,000 open arrays under 6.
-# - Recipients inside one another take at most 200 times their bytes in the gate, and 400 times in `cose-ask`.
+# - Recipients inside one another take at most 200 times their bytes in the gate, and 400 times in `cose-ask`, with `--keys` too, which
+#   holds one item's block at a time.
 # - The gate holds a payload once. A program that makes the bytes that a tag covers holds it once more.
 # - The gate, `cose-ask`, `cose-pass`, `cose-sift` and `cose-show` end by themselves, and not by a signal, under each limit from the least for an empty
 #   input to what a whole run takes. What they write then are whole messages, the first ones, and all of them if the status isn't 4; of
@@ -162,7 +163,7 @@ message=$cap
 # half of a second copy is too much
 passes "a payload of 8 MiB through the gate" large $((message + 8192 + 4096))
 passes "64 text labels through the gate" labels "$message"
-# a COSE_Mac with recipients inside one another may take 200 times its bytes, and 400 times as its questions are told
+# a COSE_Mac with recipients inside one another may take 200 times its bytes, and 400 times as its questions are asked
 { printf '\330\141\205\100\240\101p\101t\237'
   levels 33333 '\204\100\240\366\201\203\100\240\366'
   printf '\377'
@@ -174,6 +175,17 @@ input=$folder/message
 least 0 "$ask"
 input=$folder/recipients
 within "recipients inside one another, asked about" $((cap + 400 * kib)) 0 "$ask"
+within "recipients inside one another, asked about by rules" $((cap + 400 * kib)) 1 "$ask" --keys "$folder/keys"
+# 5,000 signers over 20,000 bytes, of ES256 and key id 01: 100 MB of records, and a block of 700 KB
+printf '\201\245\001\002\002\10201\040\001\041\101x\042\101y' > "$folder/es256"
+{ printf '\330\142\204\100\240\131\116\040'
+  head -c 20000 /dev/zero
+  printf '\237'
+  levels 5000 '\203\103\241\001\046\241\004\10201\100'
+  printf '\377'
+} > "$folder/signers"
+input=$folder/signers
+within "5,000 signers over 20,000 bytes, asked about by rules" $((cap + 32768)) 0 "$ask" --keys "$folder/es256"
 # the payload in a file: `payload NAME BYTES KIB` under so many KiB, of the message NAME
 payload() {
   input=$folder/$1
@@ -259,6 +271,7 @@ ends() {
 }
 ends "$gate" "$folder/keys"
 ends "$ask"
+ends "$ask" --keys "$folder/keys"
 "$ask" < "$folder/three" > "$folder/accepted" 2> /dev/null
 ends "$pass" "$folder/accepted"
 ends "$show"

@@ -1,10 +1,10 @@
 #!/usr/bin/env python3
-"""Compares the rows of "What is proved" in README.md, and the points of docs/PROVED.md, with the sources. It names each row that speaks of
-what isn't there: status 1 if there is one.
+"""Compares the rows and the points of docs/PROVED.md with the sources. It names each that speaks of what isn't there: status 1 if there is
+one.
 
-A row names functions, types or the fields of the contract of `gate`: README's in its first column, PROVED's before the first colon, with
-their crates in parentheses. Each is in such a crate, and a function has a contract. `verify_..` is all whose names begin so. Then a row names
-clauses: README's in its second column, PROVED's before a second colon. Each is the name of a clause, or a name in one, of one of these
+A row names functions, types or the fields of the contract of `gate` in its first column, a point before its first colon, with their crates
+in parentheses. Each is in such a crate, and a function has a contract. `verify_..` is all whose names begin so. Then a row names
+clauses: a row in its second column, a point before a second colon. Each is the name of a clause, or a name in one, of one of these
 functions, and each function has one of these. What follows is prose, which nobody but a reader compares."""
 import pathlib
 import re
@@ -37,13 +37,12 @@ def declared():
 
 def rows():
     """The rows: page, names, crates, clauses."""
-    text = (TOP / "README.md").read_text(encoding="utf-8")
-    table = re.search(r"^## What is proved$.*?^\|---.*?\n(.*?)\n\n", text, re.M | re.S)[1]
+    text = (TOP / "docs/PROVED.md").read_text(encoding="utf-8")
+    table = re.search(r"^## The calls that most use$.*?^\|---.*?\n(.*?)\n\n", text, re.M | re.S)[1]
     for row in table.split("\n"):
         names, clauses = row.split("|")[1:3]
-        yield "README.md", NAME.findall(names), [], NAME.findall(clauses)
-    text = (TOP / "docs/PROVED.md").read_text(encoding="utf-8")
-    for point in re.findall(r"^- (.*(?:\n  .*)*)", text[text.index("\n## The gate"):], re.M):
+        yield "docs/PROVED.md", NAME.findall(names), [], NAME.findall(clauses)
+    for point in re.findall(r"^- (.*(?:\n  .*)*)", text[text.index("\n## The gate"):text.index("\n## What the proofs don't say")], re.M):
         names, *more = re.split(r":\s+", point)
         crates = [name for group in re.findall(r"\(([^)]*)\)", names) for name in NAME.findall(group)]
         clauses = NAME.findall(more[0]) if len(more) > 1 and re.fullmatch(r"(`\w+`[,\s]*)+", more[0]) else []

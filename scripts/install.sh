@@ -1,10 +1,10 @@
 #!/usr/bin/env bash
 # scripts/install.sh [--library] PREFIX: puts the programs cose-gate, cose-ask, cose-pass, cose-sift and cose-show into PREFIX/bin, and the tools
 # cose-verify, cose-key and cose-make, in Python, into PREFIX/lib/cose-gate, with links in PREFIX/bin; their manual pages into
-# PREFIX/share/man/man1. With --library also the library for C: PREFIX/lib/libcose_gate.a, PREFIX/include/cose_gate.h and
-# PREFIX/lib/pkgconfig/cose_gate.pc, for `cc check.c $(pkg-config --cflags --libs cose_gate)`. Programs and library are proved and built
-# first, unless they were built of the sources as they are (scripts/proved.sh, `rt lib`); if that fails nothing is installed, and the status is 70.
-# All can read what is installed, whatever the umask.
+# PREFIX/share/man/man1, and completion for bash into PREFIX/share/bash-completion. With --library also the library for C:
+# PREFIX/lib/libcose_gate.a, PREFIX/include/cose_gate.h and PREFIX/lib/pkgconfig/cose_gate.pc, for `cc check.c $(pkg-config --cflags --libs
+# cose_gate)`. Programs and library are proved and built first, unless they were built of the sources as they are (scripts/proved.sh, `rt lib`);
+# if that fails nothing is installed, and the status is 70. All can read what is installed, whatever the umask.
 set -u
 umask 022
 top=$(cd "$(dirname "$(readlink -f "${BASH_SOURCE[0]}")")/.." && pwd)
@@ -23,7 +23,7 @@ programs="gate:cose_gate_cli ask:cose_ask_cli pass:cose_pass_cli sift:cose_sift 
 
 for each in $programs; do
   name=cose-${each%%:*}
-  CALLED=install.sh bash "$top/scripts/proved.sh" "$name" "${each#*:}"
+  CALLED=${CALLED:-install.sh} bash "$top/scripts/proved.sh" "$name" "${each#*:}"
   status=$?
   if [ $status -ne 0 ]; then
     ! command -v rt > /dev/null || echo "install.sh: $name is not proved, so nothing is installed" >&2
@@ -49,23 +49,29 @@ put() {
   echo "install.sh: wrote $3"
 }
 
+# Makes a link, and says so.
+link() {
+  mkdir -p "$(dirname "$2")" && ln -sf "$1" "$2" || exit 1
+  echo "install.sh: wrote $2"
+}
+
 for each in $programs; do
-  name=cose-${each%%:*}
   crate=${each#*:}
-  put 755 "$top/crates/$crate/out/$crate" "$prefix/bin/$name"
-  put 644 "$top/docs/$name.1" "$prefix/share/man/man1/$name.1"
+  put 755 "$top/crates/$crate/out/$crate" "$prefix/bin/cose-${each%%:*}"
 done
 for file in "$top"/tools/cose[-_]*; do
   mode=755
   [ -x "$file" ] || mode=644
   put $mode "$file" "$prefix/lib/cose-gate/${file##*/}"
 done
-version=$(git -C "$top" log -1 --format='%cd, commit %h' --date=format:%Y.%m.%d 2> /dev/null || echo 'version unknown')
-echo "$version" > "$prefix/lib/cose-gate/version" || exit 1
+sh "$top/scripts/version.sh" > "$prefix/lib/cose-gate/version" || exit 1
 for name in cose-verify cose-key cose-make; do
-  ln -sf "../lib/cose-gate/$name" "$prefix/bin/$name" || exit 1
-  echo "install.sh: wrote $prefix/bin/$name"
-  put 644 "$top/docs/$name.1" "$prefix/share/man/man1/$name.1"
+  link "../lib/cose-gate/$name" "$prefix/bin/$name"
+done
+put 644 "$top/scripts/completion.bash" "$prefix/share/bash-completion/completions/cose-gate"
+for name in ask gate key make pass show sift verify; do
+  put 644 "$top/docs/cose-$name.1" "$prefix/share/man/man1/cose-$name.1"
+  [ $name = gate ] || link cose-gate "$prefix/share/bash-completion/completions/cose-$name"
 done
 /usr/bin/python3 -c 'import cryptography' 2> /dev/null || echo "install.sh: cose-verify, cose-key and cose-make need Debian's python3-cryptography"
 if [ -n "$library" ]; then
@@ -78,7 +84,7 @@ if [ -n "$library" ]; then
     echo "prefix=$(mkdir -p "$prefix" && cd "$prefix" && pwd)"
     echo 'Name: cose_gate'
     echo 'Description: lets through the COSE messages of a CBOR sequence that are good'
-    echo "Version: $(git -C "$top" log -1 --format=%cd --date=format:%Y.%m.%d 2> /dev/null || echo 0)"
+    echo "Version: $(cat "$top/VERSION")"
     echo 'Cflags: -I${prefix}/include'
     echo 'Libs: -L${prefix}/lib -lcose_gate'
   } > "$made/cose_gate.pc"

@@ -4,7 +4,7 @@
 - a small message, by the first key of one and of 1,000, takes no more than BOUND: the hash of a key is begun once, not for each message;
 - a wrong tag takes the same to the instruction, whichever of its bytes is wrong, with and without --verbose: nobody who counts or times
   learns how much of a tag is right;
-- with four times as many parts of a kind (labels, signers, chunks, items, keys ..) a run takes at most GROWTH times as much: 4.8 is n log n
+- with four times as many parts of a kind (labels, signers, claims, items, keys ..) a run takes at most GROWTH times as much: 4.8 is n log n
   from 1,000 on, and a square is 16.
 
 Status 1 if one of these fails. Without valgrind it says that it is left out, and looks at nothing. CRATES is another folder of crates with
@@ -123,6 +123,8 @@ def sized(number):
     allowed = message(98, b"\x40", b"\xa0", [string(bytes(1_000)), array([signed] * number)])
     found["cose-ask --keys", "signers"] = ([program("ask"), "--keys", file(array([ES256_KEY]))], allowed)
     found["cose-ask --keys", "keys"] = ([program("ask"), "--keys", file(array([ES256_KEY] * number))], mac0())
+    token = mac0(mapped([(b"\x04", string(b"01"))]), string(b"\xa1\x01\x05"), string(mapped([(it, b"\x00") for it in names])))
+    found["cose-ask --cwt", "claims"] = ([program("ask"), "--keys", file(keys(1)), "--cwt", "--at", "0"], token)
     digests = b"".join(hashlib.sha256(b"%d" % at).digest() for at in range(number))
     found["cose-pass --digests", "digests"] = ([program("pass"), "--digests", file(digests)], mac0() * number)
     return found

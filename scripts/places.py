@@ -38,12 +38,12 @@ def refusals():
 
 def statuses():
     header = "include/cose_gate.h"
-    listed = re.search(r"^/\* The statuses: .*?^enum \{(.*?)^\};", text(header), re.M | re.S)[1]
+    listed = re.search(r"^/\* The statuses: .*?^enum cose_gate_status \{(.*?)^\};", text(header), re.M | re.S)[1]
     same("the statuses are", ["0", "1", "2", "3", "4", "5"], header, re.findall(r"^  COSE_GATE_\w+ = (\d)", listed, re.M))
     same("the errors have the statuses", ["1", "2", "3", "4", "5"], "examples/python/cose_gate.py",
          found("examples/python/cose_gate.py", r"^    status = (\d)$"))
-    same("the statuses are", ["0 | 1", "2", "3", "5", "_"], "examples/rust/src/main.rs",
-         re.findall(r"^        (\S.*?) => \w+\(", re.search(r"match answer\.status \{.*?\n    \}", text("examples/rust/src/main.rs"), re.S)[0], re.M))
+    same("the statuses are", ["0 | 1", "2", "3", "_"], "examples/rust/src/lib.rs",
+         re.findall(r"^            (\S.*?) => \w+\(", re.search(r"match answer\.status \{.*?\n        \}", text("examples/rust/src/lib.rs"), re.S)[0], re.M))
     for name in ["gate", "ask", "pass"]:
         same("the statuses are", ["0", "1", "2", "3", "4"], f"docs/cose-{name}.1", found(f"docs/cose-{name}.1", r"^\.B (\d)$"))
 
@@ -52,7 +52,7 @@ def faults():
     """The numbers of the faults of the streaming check."""
     exported = [(re.sub(r"\B([A-Z])", r"_\1", name).upper(), number)
                 for name, number in found("crates/cose_gate_c/src/streaming.rt", r"^        StreamFault::(\w+)(?:\(_\))? => (\d),$")]
-    listed = re.search(r"^enum \{\n  COSE_GATE_NO_FAULT = 0,(.*?)^\};", text("include/cose_gate.h"), re.M | re.S)[1]
+    listed = re.search(r"^enum cose_gate_fault \{\n  COSE_GATE_NO_FAULT = 0,(.*?)^\};", text("include/cose_gate.h"), re.M | re.S)[1]
     same("the faults are", exported, "include/cose_gate.h", re.findall(r"^  COSE_GATE_(\w+) = (\d)", listed, re.M))
 
 
@@ -61,7 +61,7 @@ def limits():
     layers = found("crates/coset_labels/src/limits.rt", r"^const LAYERS: usize = (\d+);")
     for file, of_nesting, of_layers in [
         ("include/cose_gate.h", r"define COSE_GATE_NESTING (\d+)", r"define COSE_GATE_LAYERS (\d+)"),
-        ("examples/rust/src/main.rs", r"^const NESTING: usize = (\d+);", r"^const LAYERS: usize = (\d+);"),
+        ("examples/rust/src/lib.rs", r"^const NESTING: usize = (\d+);", r"^const LAYERS: usize = (\d+);"),
         ("examples/python/cose_gate.py", r"^NESTING, LAYERS = (\d+),", r"^NESTING, LAYERS = \d+, (\d+)"),
     ]:
         same("the limits are", nesting + layers, file, found(file, of_nesting) + found(file, of_layers))
@@ -86,18 +86,18 @@ def abi():
     fields_of("StreamAnswer", "crates/cose_gate_c/src/streaming.rt", "cose_gate_stream_answer")
     fields_of("StreamQuestion", "crates/cose_gate_c/src/stream_asking.rt", "cose_gate_stream_question")
     names = fields_of("Answer", "crates/cose_gate_records/src/answer.rt", "cose_gate_answer")
-    rust = "examples/rust/src/main.rs"
+    rust = "examples/rust/src/lib.rs"
     fields = re.search(r"^struct Answer \{(.*?)\n\}", text(rust), re.M | re.S)[1]
     same("the fields of an answer are", names, rust, re.findall(r"^    (\w+): ", fields, re.M))
     python = "examples/python/cose_gate.py"
     same("the fields of an answer are", names, python, re.findall(r'\("(\w+)",', found(python, r"_fields_ = (.*?)$")[0]))
     for exported, declared in [("Answer", "cose_gate_answer"), ("StreamAnswer", "cose_gate_stream_answer"),
                                ("StreamQuestion", "cose_gate_stream_question")]:
-        calls = found("crates/cose_gate_c/src/lib.rt", rf'extern "C" fn (\w+)\(([^{{]*?)\n\) -> {exported}$')
+        calls = found("crates/cose_gate_c/src/lib.rt", rf'extern "C" fn (\w+)\(([^{{]*?)\n?\) -> {exported}$')
         same("the calls are", [name for name, _ in calls], header, found(header, rf"^{declared} (\w+)\("))
         for name, parameters in calls:
             wanted = []
-            for one, of in re.findall(r"(\w+): (&mut \[u8\]|&\[u8\]|usize|bool),", parameters):
+            for one, of in re.findall(r"(\w+): (&mut \[u8\]|&\[u8\]|usize|bool)(?:,|$)", parameters):
                 if of.endswith("[u8]"):
                     wanted += [("uint8_t *" if "mut" in of else "const uint8_t *", one), ("size_t", f"{one}_length")]
                 else:
@@ -109,6 +109,8 @@ def abi():
 
 def versions():
     newest = re.search(r"^## (\S+)$", text("CHANGELOG.md"), re.M)[1]
+    same("the version is", [newest], "README.md", found("README.md", r"\bVersion (\d+\.\d+)\b"))
+    same("the version is", newest + "\n", "VERSION", text("VERSION"))
     for name, file in [("gate", "cose_gate_cli/src/main.rt"), ("ask", "cose_ask_cli/src/main.rt"), ("pass", "cose_pass_cli/src/main.rt"),
                        ("sift", "cose_sift/src/main.rt"),
                        ("show", "cose_show_core/src/words.rt")]:

@@ -28,7 +28,7 @@ crates_in() {
   ' "$top/crates.txt" "$1"
 }
 
-# Finds sources of a crate and of those below it, by what `find` is told after its name.
+# Finds sources of a crate and of those below it, by what is given to `find` after its name.
 sources() {
   local folders
   mapfile -t folders < <(crates_in /dev/null "$1" | sed 's|^|crates/|')

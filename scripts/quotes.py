@@ -1,6 +1,6 @@
 #!/usr/bin/env python3
 """Compares each block of Rattle in crates/*/CALLING.md, docs/PORTING.md and docs/TOKENS.md with the crate callers, the example programs and
-the tests of the gate. It names each part that differs: status 1 if there is one.
+some tests. It names each part that differs: status 1 if there is one.
 
 A part is the lines between two blank lines, such as a function. Its lines have to follow one another in one source file, so that none is left
 out; margins and blank lines don't count. Of imports each has to be in a source, and a block that begins with its `//!` lines or imports has
@@ -11,8 +11,8 @@ import sys
 
 TOP = pathlib.Path(__file__).resolve().parent.parent
 PAGES = ["crates/*/CALLING.md", "crates/*/MESSAGES.md", "docs/PORTING.md", "docs/TOKENS.md"]
-SOURCES = ["crates/callers/src/*.rt", "crates/example_*/src/*.rt", "crates/cose_gate_tests/src/program/*.rt",
-           "crates/coset_tests/src/together/*.rt"]
+SOURCES = ["crates/callers/src/*.rt", "crates/ciborium/src/laws.rt", "crates/example_*/src/*.rt", "crates/cose_gate_tests/src/program/*.rt",
+           "crates/coset_tests/src/together/*.rt", "crates/cbor_tests/src/typed/*.rt"]
 
 
 def files(patterns):

@@ -3,7 +3,8 @@
 # - The blocks of Rattle on the pages are whole parts of the crate callers, of an example or of a test (scripts/quotes.py).
 # - The scripts cose-gate, cose-show, cose-ask, cose-pass and cose-sift have the help of their programs.
 # - What is said in several places is said in all of them (scripts/places.py).
-# - The functions, laws and clauses of which README.md and docs/PROVED.md say what is proved are there (scripts/claims.py).
+# - The functions, laws and clauses of which docs/PROVED.md says what is proved are there (scripts/claims.py).
+# - README.md is a front page: at most 110 lines of 100 columns.
 cd "$(dirname "$0")/.." || exit 2
 status=0
 
@@ -27,5 +28,7 @@ has_help cose-show crates/cose_show_core/src/words.rt
 has_help cose-ask crates/cose_ask_cli/src/main.rt
 has_help cose-pass crates/cose_pass_cli/src/main.rt
 has_help cose-sift crates/cose_sift/src/main.rt
+
+awk 'length > 100 || FNR > 110 { print FILENAME ":" FNR ": more than 110 lines of 100 columns"; bad = 1 } END { exit bad }' README.md || status=1
 
 exit $status

@@ -89,8 +89,8 @@ fi
 keys=$top/examples/keys.cbor
 table=$folder/table
 echo "KiB of stack, by LLVM and by Rattle's own compiler
-| message | cose-gate | | cose-gate --stream | | cose-sift | | cose-show | | cose-ask | | cose-pass | | conformance_cose | | C: check, ask, pass, stream |
-|---|---|---|---|---|---|---|---|---|---|---|---|---|---|---|---|" > "$table"
+| message | cose-gate | | cose-gate --stream | | cose-sift | | cose-show | | cose-ask | | cose-ask --keys | | cose-pass | | conformance_cose | | C: check, ask, pass, stream |
+|---|---|---|---|---|---|---|---|---|---|---|---|---|---|---|---|---|---|" > "$table"
 limits=
 python3 "$top/scripts/worst-messages.py" "$folder/usual" > "$folder/said" || exit 2
 while read -r name said; do
@@ -102,6 +102,7 @@ while read -r name said; do
   both $five "cose-sift on $name" "" "$message" cose_sift
   both $five "cose-show on $name" "" "$message" cose_show
   both $five "cose-ask on $name" "${said/Judged/passed}" "$message" cose_ask_cli
+  both $five "cose-ask --keys on $name" "" "$message" cose_ask_cli --keys "$keys"
   both $five "cose-pass on $name" "${said/Judged/passed}" "$message" cose_pass_cli "$folder/records"
   both $sixth "conformance_cose on $name" "" "$message.row" conformance_cose
   calls $library 256 16

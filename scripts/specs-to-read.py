@@ -9,8 +9,9 @@ functions and proofs, which the checker compares with the public clauses, so not
   scripts/specs-to-read.py --into FILE [DOOR..]   writes the clauses of the doors, if there are any, and the definitions into a file
   scripts/specs-to-read.py --unread               the files of which no definition is reached
 
-A public clause is one of a function, method, trait or impl that a crate makes public. What a clause or a definition names is followed by its
-imports, from file to file. Names are compared, and not resolved as the checker does, so it may list a few definitions too many."""
+A public clause is one of a function, method, trait or impl that a crate makes public; of a program, one of what its `main` uses, or of any
+function of it that is named as a door. What a clause or a definition names is followed by its imports, from file to file. Names are
+compared, and not resolved as the checker does, so it may list a few definitions too many."""
 import pathlib
 import re
 import sys
@@ -173,9 +174,13 @@ def balanced(text, at):
     return at
 
 
-def public_names(crate):
-    """The names that a crate passes on, and its public modules."""
+def public_names(crate, is_named):
+    """The names that a crate passes on, and its public modules: of a program the names that it uses, and if doors are named all modules."""
     source = CRATES / crate / "src"
+    if not (source / "lib.rt").exists():
+        text = (source / "main.rt").read_text(encoding="utf-8")
+        used = re.findall(r"^use crate::([^;]+);", text, re.M)
+        return {name for path in used for name in re.findall(r"\w+", path)}, set(re.findall(r"^mod (\w+);", text, re.M) if is_named else [])
     modules = set(re.findall(r"^pub mod (\w+);", (source / "lib.rt").read_text(encoding="utf-8"), re.M))
     names = set()
     for file in [source / "lib.rt", *(it for name in modules for it in (source / f"{name}.rt", source / name / "mod.rt") if it.exists())]:
@@ -193,9 +198,9 @@ def owner_of(head):
     return [*words[at + 1:at + 2], words[at - 1]] if at else words[:1]
 
 
-def public_clauses(crate):
+def public_clauses(crate, is_named):
     """Each public clause and ghost member of a crate, with the names of its door and all of its source."""
-    exported, modules = public_names(crate)
+    exported, modules = public_names(crate, is_named)
     for file in sorted((CRATES / crate / "src").rglob("*.rt")):
         text = without_comments(file.read_text(encoding="utf-8"), "//")
         is_open = file.stem in modules or file.stem in ("lib", "laws") or "laws" in file.parts
@@ -257,9 +262,9 @@ def main(arguments):
 
     for folder in sorted(CRATES.glob("*/src")):
         crate = folder.parent.name
-        if crate in LEFT_OUT or not (folder / "lib.rt").exists():
+        if crate in LEFT_OUT or not (folder / "lib.rt").exists() and not crate.startswith("cose_"):
             continue
-        for own, clause, text in public_clauses(crate):
+        for own, clause, text in public_clauses(crate, bool(doors)):
             if mine := [it for it in doors if it in own or it in (f"{crate}::{name}" for name in own)]:
                 begun.setdefault((mine[0], crate), []).append(clause)
             if mine or not doors:

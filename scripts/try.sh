@@ -1,5 +1,5 @@
 #!/usr/bin/env bash
-# scripts/try.sh PROGRAM ARGS..: builds cose-gate, cose-ask, cose-pass, cose-sift or cose-show without proving it, in about a minute, and runs it. Standard
+# scripts/try.sh PROGRAM ARGS..: builds cose-gate, cose-ask, cose-pass, cose-sift or cose-show without proving it (docs/TIMES.md, "Costs"), and runs it. Standard
 # input and output and the exit status are the program's; a line on standard error says that it is not proved. It is kept in out/unproved, and
 # built again if a source is newer. Of cose-verify the two programs that it runs are built so. scripts/try.sh --path PROGRAM builds it and
 # prints its path. Status 70 if it can't be built; what is said of a missing kit begins with CALLED, or with PROGRAM.
@@ -67,7 +67,7 @@ if ! [ -x "$program" ] || [ -n "$(find "$top"/crates/*/src "$top/crates.txt" -ty
     echo "${CALLED:-$name}: rt isn't in PATH: it comes with Rattle's kit, KIT/bin" >&2
     exit 70
   fi
-  echo "$name: building it, about a minute" >&2
+  echo "$name: building it, in about a CPU minute" >&2
   (build) || {
     echo "$name: the build failed" >&2
     exit 70

@@ -3,7 +3,8 @@
 write instead: status 1 if there is one, or a use without a hit. With --all it prints each hit with its reason.
 
 It reads prose: of pages what is no code, of other files the comments. A use is found by what is beside the word, or in which page it is. So
-it can't tell a condition from a place, or an encoding from a text string, if the same words are beside it: read what --all prints."""
+it can't tell a condition from a place, or an encoding from a text string, if the same words are beside it: read what --all prints. A page
+that says a word of TERMS says at the first place what it is, and has it in italics there."""
 import pathlib
 import re
 import sys
@@ -30,6 +31,7 @@ WORDS = {
         ("a text string", r"(^README|ciborium|cbor_diag|coset_labels|cose_show|conformance_c|example_library|DECI|DEFI|DIFF|SCALE|TIMES"
                           r"|PORT|CHANGELOG|capped|TOKENS|tools/|docs/cose-(key|make|sift|verify)).*\btexts?\b"),
     ]),
+    "told": ("said, given, asked, noted", []),
     "stands?|stood": ("is, are", [("stands for something", r"stands? for|stands?$")]),
     "answer(s|ed|ing)?": ("returns", [
         ("of a judge", r"judge|/cose_gate|/example_judge|answer is yes|/cose_show|last answer|its answer, how|with its answer"),
@@ -42,6 +44,8 @@ WORDS = {
     "pass(ed|es)? over": ("ignored", []),
     "(minutes|seconds) of (a )?processor": ("CPU minutes", []),
 }
+TERMS = ["judge", "question"]
+TERM_PAGES = ["*.md", "docs/*.md", "crates/cose_gate/*.md"]
 
 
 def prose(file):
@@ -73,4 +77,10 @@ for file in sorted(files - {pathlib.Path(__file__).resolve()}):
 for word, reason in [(word, reason) for word, (_, uses) in WORDS.items() for reason, _ in uses if (word, reason) not in used]:
     bad += 1
     print(f"no hit of {word} is {reason}: take it off the list")
+for file in [file for pattern in TERM_PAGES for file in sorted(TOP.glob(pattern))]:
+    for term in TERMS:
+        first = next(((number, line) for number, line in prose(file) if re.search(rf"\b{term}s?\b", line, re.I)), None)
+        if first and not re.search(rf"\*{term}s?\*", first[1], re.I):
+            bad += 1
+            print(f"{file.relative_to(TOP)}:{first[0]}: SAY what a *{term}* is: {first[1].strip()[:150]}")
 sys.exit(bad > 0)

@@ -7,12 +7,14 @@ import json
 import os
 import re
 from dataclasses import dataclass, replace
+from functools import partial
 
 from cryptography.exceptions import InvalidSignature, UnsupportedAlgorithm
 from cryptography.hazmat.primitives import hashes, serialization
 from cryptography.hazmat.primitives.asymmetric import ec, ed448, ed25519, padding, rsa, utils
 
-from cose_cbor import ARRAY, Reader, Refused, decode, encode, show
+from cose_cbor import ARRAY, Reader, Refused, decode, encode, show, utf8
+from cose_tool import read, why
 
 
 # Algorithms
@@ -81,7 +83,8 @@ OKP_CURVES = {"Ed25519": (ed25519.Ed25519PublicKey, ed25519.Ed25519PrivateKey), 
 
 # Of a COSE_Key: the kty and crv by the names of a JWK, and the labels of its parts, which are all byte strings here.
 KIND_NUMBERS = {"OKP": 1, "EC": 2, "RSA": 3, "oct": 4}
-CURVE_NUMBERS = {"P-256": 1, "P-384": 2, "P-521": 3, "Ed25519": 6, "Ed448": 7, "secp256k1": 8}
+CURVE_NUMBERS = {"P-256": 1, "P-384": 2, "P-521": 3, "X25519": 4, "X448": 5, "Ed25519": 6, "Ed448": 7, "secp256k1": 8, "brainpoolP256r1": 256,
+                 "brainpoolP320r1": 257, "brainpoolP384r1": 258, "brainpoolP512r1": 259}
 PUBLIC_PARTS = {"OKP": {"x": -2}, "EC": {"x": -2, "y": -3}, "RSA": {"n": -1, "e": -2}, "oct": {}}
 SECRET_PARTS = {"OKP": {"d": -4}, "EC": {"d": -4}, "RSA": {"d": -3, "p": -4, "q": -5, "dp": -6, "dq": -7, "qi": -8}, "oct": {"k": -1}}
 
@@ -134,6 +137,20 @@ def kid_of(text):
     return bytes_of_hex(text[4:], text) if text.startswith("hex:") else os.fsencode(text)
 
 
+def words_of(keys):
+    """The key ids of these keys, each as an argument says it."""
+    ids = sorted({key.kid for key in keys if key.kid is not None})
+    said = [kid.decode() if kid and all(0x21 <= byte < 0x7F for byte in kid) and kid[:4] != b"hex:" else "hex:" + kid.hex() for kid in ids]
+    return ", ".join(said[:20] + (["and more"] if len(said) > 20 else [])) or "none has a key id"
+
+
+def thumbprint(key):
+    """SHA-256 over the key's public part alone (RFC 9679, section 3)."""
+    if key.kind == "oct":
+        raise Refused(f"{key.source or 'the key'}: no thumbprint of a secret, which it would help to guess")
+    return hashlib.sha256(encode(to_cose(Key(key.kind, key.curve, key.public)))).digest()
+
+
 def kid_of_name(name):
     """The key id that a file's name says, as an argument does. A name that could be hex or text is refused."""
     if re.fullmatch("([0-9a-fA-F]{2})+", name):
@@ -149,15 +166,13 @@ def bytes_of_hex(text, whose):
         raise Refused(f"{whose}: not hex") from None
 
 
-def secret_of(path):
-    """The symmetric key that a file has in hex; of - standard input."""
-    try:
-        with open(0 if path == "-" else path, encoding="ascii", errors="replace") as file:
-            secret = bytes_of_hex("".join(file.read().split()), path)
-    except OSError as error:
-        raise Refused(f"{path}: {error.strerror}") from None
+def secret_of(path, is_hex):
+    """The symmetric key that a file has in hex or as it is; of - standard input."""
+    secret = read(path)
+    if is_hex:
+        secret = bytes_of_hex(secret.decode("ascii", "replace"), path)
     if not secret:
-        raise Refused(f"{path}: no secret in it")
+        raise Refused(f"{path}: it is empty")
     return Key("oct", secret=secret, source=path)
 
 
@@ -175,7 +190,8 @@ def key_of_object(key):
     for name, (of_public, _) in OKP_CURVES.items():
         if isinstance(public, of_public):
             return Key("OKP", name, public, private)
-    raise Refused("a key or curve that isn't for signatures")
+    name = getattr(getattr(public, "curve", public), "name", type(public).__name__.strip("_").removesuffix("PublicKey"))
+    raise Refused(f"{name}: not for signatures here; these take {', '.join([*EC_CURVES, *OKP_CURVES])} and RSA")
 
 
 def key_of_parts(kind, curve, parts):
@@ -186,7 +202,7 @@ def key_of_parts(kind, curve, parts):
     if kind == "oct":
         return Key("oct", secret=parts["k"])
     if curve not in {"EC": EC_CURVES, "OKP": OKP_CURVES, "RSA": [None]}[kind]:
-        raise Refused(f"the curve {show(curve)}, which isn't for signatures")
+        raise Refused(f"the curve {show(curve)}, which isn't for signatures here")
     public, private = {"EC": ec_halves, "OKP": okp_halves, "RSA": rsa_halves}[kind](curve, parts)
     if private and pem_of(private.public_key()) != pem_of(public):
         raise Refused("a private half that isn't that of the public one")
@@ -249,18 +265,22 @@ def pem_of(key):
 
 # Files of keys
 
-def from_pem(data):
-    kinds = re.findall(b"-----BEGIN (PUBLIC|PRIVATE|[A-Z ]+ PRIVATE) KEY-----", data)
-    if not kinds:
-        raise Refused("no PEM of a public key (openssl x509 -pubkey -noout takes that of a certificate)")
-    if len(kinds) > 1:
-        raise Refused("several keys in one PEM file")
-    if kinds == [b"PUBLIC"]:
-        return key_of_object(serialization.load_pem_public_key(data))
-    try:
-        return key_of_object(serialization.load_pem_private_key(data, None))
-    except TypeError:
-        raise Refused("an encrypted private key") from None
+LOADERS = [serialization.load_pem_public_key, serialization.load_ssh_public_key, serialization.load_der_public_key] + [
+    partial(load, password=None)
+    for load in (serialization.load_pem_private_key, serialization.load_ssh_private_key, serialization.load_der_private_key)]
+
+
+def from_plain(data):
+    """A key in PEM or DER, or as OpenSSH writes it."""
+    if len(re.findall(b"-----BEGIN [A-Z ]*KEY-----|^(?:ssh|ecdsa|sk)-", data, re.M)) > 1:
+        raise Refused("several keys in one file")
+    for load in LOADERS:
+        try:
+            return key_of_object(load(data))
+        except (TypeError, ValueError, UnsupportedAlgorithm) as error:
+            if re.search("is encrypted|password-protected", str(error)):
+                raise Refused("an encrypted private key") from None
+    raise Refused("a certificate: openssl x509 -pubkey -noout takes its public key" if b"CERTIFICATE" in data else NOT_GOOD)
 
 
 def from_jwk(jwk):
@@ -274,7 +294,7 @@ def from_jwk(jwk):
         raise Refused("a kid that isn't a text")
     if jwk.get("use", "sig") != "sig":
         raise Refused(f"its use is {show(jwk['use'])}, not 'sig'")
-    key.kid = jwk["kid"].encode() if "kid" in jwk else None
+    key.kid = utf8(jwk["kid"]) if "kid" in jwk else None
     key.alg = algorithm_named(jwk["alg"]).number if "alg" in jwk else None
     if "key_ops" in jwk:
         key.operations = operations_of([number for name in jwk["key_ops"] for number in JWK_OPERATIONS.get(name, ())])
@@ -291,8 +311,12 @@ def json_of(text):
         return value
     try:
         return json.loads(text, object_pairs_hook=made)
+    except json.JSONDecodeError as error:
+        raise Refused(f"not JSON at character {error.pos + 1}") from None
     except RecursionError:
         raise Refused("JSON of too many levels") from None
+    except ValueError:
+        raise Refused("JSON that isn't UTF-8, or has a number of thousands of digits") from None
 
 
 def unb64(name, text):
@@ -346,56 +370,66 @@ def to_cose(key):
 
 
 LOAD_ERRORS = (Refused, ValueError, TypeError, UnsupportedAlgorithm, OverflowError)
+NOT_GOOD = "not a good key, or of a kind that isn't taken"
 
 
 def load_keys(path, note):
-    """The keys of a file: a PEM, a JWK or a set of them, a COSE_Key or a set of them; or of the files KID.pem of a folder. Of each key that
-    can't be used `note` is told. It is refused if there is none."""
-    is_folder, keys = os.path.isdir(path), []
+    """The keys of a file: one in PEM, DER or of OpenSSH, a JWK or a set of them, a COSE_Key or a set of them; or of the files KID.pem of a
+    folder. Of each key that can't be used `note` says so. It is refused if there is none."""
+    is_folder, keys, faults = os.path.isdir(path), [], []
     try:
-        names = sorted(name for name in os.listdir(path) if name.endswith(".pem")) if is_folder else [os.path.basename(path)]
-        for name in names:
-            with open(os.path.join(path, name) if is_folder else path, "rb") as file:
-                keys += keys_in(name, file.read(), note)
+        files = [os.path.join(path, name) for name in sorted(os.listdir(path)) if name.endswith(".pem")] if is_folder else [path]
     except OSError as error:
-        raise Refused(f"{path}: {error.strerror}") from None
+        raise Refused(f"{path}: {why(error)}") from None
+    for file in files:
+        keys += keys_in(file, read(file), faults)
+    *others, last = faults or [f"{path}: no key in it" + ", which a folder has in files KID.pem" * is_folder]
+    for fault in faults if keys else others:
+        note(fault)
     if not keys:
-        raise Refused(f"{path}: no key in it" + (", which a folder has in files KID.pem" if is_folder else ""))
+        raise Refused(last)
     for key in keys:
         if is_folder and key.any_kid:
             key.kid, key.any_kid = kid_of_name(key.source.removesuffix(".pem")), False
     return keys
 
 
-def keys_in(name, data, note):
-    """The keys of a file's bytes."""
+def keys_in(file, data, faults):
+    """The keys of a file's bytes; to `faults` goes why others can't be used."""
     keys = []
     try:
         for place, (make, source) in enumerate(makers_of(data), 1):
             try:
                 keys.append(make(source))
-                keys[-1].source, keys[-1].any_kid = name, make is from_pem
+                keys[-1].source, keys[-1].any_kid = os.path.basename(file), make is from_plain
             except LOAD_ERRORS as error:
-                note(f"{name}: key {place}: {in_words(error)}")
+                faults.append(f"{file}: " + f"key {place}: " * (make is not from_plain) + in_words(error))
     except LOAD_ERRORS as error:
-        note(f"{name}: {in_words(error)}")
+        faults.append(f"{file}: {in_words(error)}")
     return keys
 
 
 def in_words(error):
-    return str(error) if isinstance(error, Refused) else f"not a good key ({error or type(error).__name__})".splitlines()[0]
+    return str(error) if isinstance(error, Refused) else NOT_GOOD
 
 
 def makers_of(data):
     """How to make each key of a file, and of what."""
-    if data.lstrip().startswith(b"-----BEGIN"):
-        return [(from_pem, data)]
-    if data.lstrip()[:1] in (b"{", b"["):
+    text = data.lstrip()
+    if not text:
+        raise Refused("it is empty")
+    if text.startswith((b"-----BEGIN", b"ssh-", b"ecdsa-", b"sk-")) or data[:1] == b"\x30":     # of DER, and never of a COSE_Key
+        return [(from_plain, data)]
+    if text[:1] in (b"{", b"["):
         parsed = json_of(data)
         return [(from_jwk, jwk) for jwk in (parsed.get("keys", [parsed]) if isinstance(parsed, dict) else parsed)]
-    parsed = decode(data)
+    try:
+        parsed = decode(data)
+        fault = "it is no key or set of keys"
+    except Refused as refused:
+        parsed, fault = None, refused
     if not isinstance(parsed, (list, dict)):
-        raise Refused("no PEM, JWK Set or COSE_KeySet")
+        raise Refused(f"no PEM, DER, ssh or JWK, and as a COSE_Key: {fault}; of a secret cose-key raw:FILE makes one, or hex:FILE if it is in hex")
     return [(from_cose, entries) for entries in (parsed if isinstance(parsed, list) else [parsed])]
 
 

@@ -2,8 +2,8 @@
 
 import argparse
 import calendar
+import errno
 import os
-import platform
 import re
 import subprocess
 import sys
@@ -40,7 +40,7 @@ def end(kind, error, _):
 
 sys.excepthook = end
 
-from cose_cbor import Refused
+from cose_cbor import Refused, show
 
 try:
     import cryptography
@@ -48,8 +48,23 @@ except ImportError:
     say("python3-cryptography isn't there; Debian has it as a package")
     sys.exit(70)
 
-CLAIMS = {"iss": 1, "sub": 2, "aud": 3, "exp": 4, "nbf": 5, "iat": 6, "cti": 7}     # RFC 8392, section 3.1
+# Those of IANA's registry (RFC 8392, 8747, 9200 and 9711), by their names in JSON.
+CLAIMS = {name: number for first, names in (
+    (1, "iss sub aud exp nbf iat cti cnf scope nonce"), (38, "ace_profile cnonce exi"),
+    (256, "ueid sueids oemid hwmodel hwversion uptime oemboot dbgstat location eat_profile submods"),
+    (267, "bootcount bootseed dloas swname swversion manifests measurements measres intuse"))
+    for number, name in enumerate(names.split(), first)}
 HERE = os.path.dirname(os.path.realpath(__file__))
+
+
+# What argparse says of arguments, and what is said here.
+SAID = (
+    (r"the following arguments are required: (.*)", r"\1 is missing"),
+    (r"one of the arguments (\S+) (\S+) is required", r"one of \1 and \2 is missing"),
+    (r"argument (\S+): not allowed with argument (\S+)", r"\2 and \1: one of them"),
+    (r"argument (\S+): expected one argument", r"\1: a word has to follow"),
+    (r"argument (\S+): ignored explicit argument .*", r"\1: it takes no word"),
+    (r"argument (\S+): ", r"\1: "))
 
 
 class Parser(argparse.ArgumentParser):
@@ -60,29 +75,51 @@ class Parser(argparse.ArgumentParser):
         self.help = help
 
     def arguments(self):
-        if sys.argv[1:] in (["-h"], ["--help"]):
+        words = sys.argv[1:sys.argv.index("--") if "--" in sys.argv else None]
+        if "-h" in words or "--help" in words:
             self.show(self.help)
-        if sys.argv[1:] == ["--version"]:
-            self.show(f"{self.prog} ({version()}, python3 {platform.python_version()}, cryptography {cryptography.__version__})")
-        return self.parse_intermixed_args()
+        if "--version" in words:
+            self.show(f"{self.prog} {version()}")
+        for word in words:
+            if re.match("-[^0-9]", word) and not {word.split("=")[0], word[:2]} & self._option_string_actions.keys():
+                self.error(f"{word}: no such option")
+        terms, others = self.parse_known_intermixed_args()
+        for word in others:
+            self.error(f"{word}: one word too many")
+        return terms
 
     def show(self, text):
         write_all(1, (text + "\n").encode())
         sys.exit(0)
 
     def error(self, message):
-        say(f"usage: {self.usage}", f"{self.prog}: error: {message}")
+        for pattern, said in SAID:
+            message = re.sub("^" + pattern, said, message)
+        say(f"usage: {self.usage}", "  " + message, f"  {self.prog} --help has all options")
         sys.exit(2)
 
 
+def worded(make, words):
+    """A type of arguments, whose error is in words."""
+    def made(text):
+        try:
+            return make(text)
+        except (ValueError, KeyError):
+            raise argparse.ArgumentTypeError(f"{show(text)} {words}") from None
+    return made
+
+
+HEX = worded(bytes.fromhex, "isn't hex")
+
+
 def version():
-    """What scripts/install.sh or scripts/package.sh wrote beside this file; in a checkout the commit, as of cose-gate."""
+    """What scripts/install.sh or scripts/package.sh wrote beside this file; in a checkout what they would write."""
     try:
         with open(os.path.join(HERE, "version"), encoding="ascii") as file:
             return file.read().strip()
     except OSError:
-        git = ["git", "-C", HERE, "rev-parse", "--short", "HEAD"]
-        return "commit " + (subprocess.run(git, capture_output=True, text=True).stdout.strip() or "unknown")
+        made = subprocess.run(["sh", os.path.join(HERE, "..", "scripts", "version.sh")], capture_output=True, text=True)
+        return made.stdout.strip() or "(version unknown)"
 
 
 def seconds(text):
@@ -96,6 +133,62 @@ def whole_number(text):
     if not -1 << 64 <= number < 1 << 64:
         raise ValueError("a number of more than 64 bits")
     return number
+
+
+UNITS = {"s": 1, "m": 60, "h": 3600, "d": 86400}
+
+
+def span(text):
+    """So many seconds: 90, 90s, 5m, 1h or 1d."""
+    return int(text[:-1]) * UNITS[text[-1]] if text[-1:] in UNITS else int(text)
+
+
+def opened(path):
+    """A file that is named, to be read; of - standard input."""
+    try:
+        return open(0 if path == "-" else path, "rb")
+    except OSError as error:
+        raise Refused(f"{path}: {why(error)}") from None
+
+
+def read(path):
+    """The bytes of a file that is named; of - standard input."""
+    with opened(path) as file:
+        try:
+            return file.read()
+        except OSError as error:
+            error.filename = "standard input" if path == "-" else path
+            raise
+
+
+def why(error):
+    """Why a file can't be used, as the proved programs say it."""
+    said = {errno.ENOENT: "no such file", errno.EACCES: "no permission", errno.EISDIR: "a folder", errno.EEXIST: "it is there already"}
+    return said.get(error.errno, error.strerror)
+
+
+def output(name, path, mode, is_text):
+    """A new file to write to, or standard output; a terminal gets only text."""
+    if path is None and not is_text and sys.stdout.isatty():
+        say(f"{name}: this isn't written to a terminal; add > FILE or -o FILE")
+        sys.exit(2)
+    try:
+        return 1 if path is None else os.open(path, os.O_WRONLY | os.O_CREAT | os.O_EXCL, mode)
+    except FileNotFoundError:
+        raise OSError(None, "no such folder", path) from None
+
+
+def write(name, data, path, mode, is_text=False):
+    """Writes a new file, whole or not at all, or standard output."""
+    fd = output(name, path, mode, is_text)
+    try:
+        write_all(fd, data)
+        os.close(fd)
+    except OSError as error:
+        if path is not None:
+            os.unlink(path)
+        error.filename = path or "standard output"
+        raise
 
 
 def run(name, main):
@@ -113,7 +206,9 @@ def run(name, main):
     except MemoryError:
         say(f"{name}: out of memory")
         status = 4
+    except BrokenPipeError:     # its reader went away
+        status = 4
     except OSError as error:
-        say(f"{name}: {str(error.filename) + ': ' if error.filename else ''}{error.strerror}")
+        say(f"{name}: {error.filename or 'input or output'}: {why(error)}")
         status = 4
     sys.exit(status)

@@ -16,7 +16,7 @@ import unittest
 
 import cbor2
 from cryptography.hazmat.primitives import hashes, serialization
-from cryptography.hazmat.primitives.asymmetric import ec, ed448, ed25519, padding, rsa, utils
+from cryptography.hazmat.primitives.asymmetric import ec, ed448, ed25519, padding, rsa, utils, x25519
 
 HERE = os.path.dirname(os.path.abspath(__file__))
 VERIFY = os.path.join(HERE, "cose-verify")
@@ -199,10 +199,11 @@ class Tools(unittest.TestCase):
         self.passes(a3 + a4, "--now", "2015-10-05T17:09:03Z", "--aud", "coap://light.example.com", "--iss", "coap://as.example.com", keys=keys)
         tagged = h("d83d") + a3 + h("d9d9f7d83d") + a4 + h("d9d9f7") + a3
         self.passes(tagged, "--now", "1443944944", "--any-aud", keys=keys, as_bytes=a3 + a4 + a3)
+        self.passes(h("d83dda0000d9f7d83d") + a3, "--now", "1443944944", "--any-aud", keys=keys, as_bytes=a3)
         for reason, *arguments in (
-            ("expired 2015-10-05T17:09:04Z", "1444064944"), ("not before 2015-10-04T07:49:04Z", "1443944943"),
-            ("for another receiver, 'coap://light", "1443944944", "--aud", "x"), ("no claim room", "1443944944", "--need", "room"),
-            ("for a receiver, 'coap://light.example.com', and none is named here: --aud", "1443944944"),
+            ("expired (exp 2015-10-05T17:09:04Z, ", "1444064944"), ("not valid yet (exp 2015-10-05T17:09:04Z, nbf 2015-10-04T07:49:04Z", "1443944943"),
+            ("for another receiver (exp ", "1443944944", "--aud", "x"), ("is not there (no room, exp ", "1443944944", "--need", "room"),
+            ("for a receiver, and none is named here (exp 2015-10-05T17:09:04Z, ", "1443944944"), ("aud 'coap://light.example.com'; it is ", "1443944944"),
         ):
             out, told, status = self.verify(a3, "--now", *arguments, keys=keys)
             self.assertEqual((out, status), (b"", 1))
@@ -330,7 +331,7 @@ class Tools(unittest.TestCase):
         self.refused([
             ("NotTagged", "no tag says", cbor2.dumps(b"hi")),
             ("NotTagged", "no tag says", GOOD[1:]),
-            ("OtherTag", "--now takes it off", b"\xd8\x3d" + GOOD),
+            ("OtherTag", "--cwt takes it off", b"\xd8\x3d" + GOOD),
             ("OtherTag", "tag 1\\b", tag(1, 5)),
             ("Encrypted", "COSE_Encrypt", tag(16, [b"", {}, b"x"])),
             ("Detached", "payload", tag(18, [b"", {}, None, b"x"])),
@@ -344,27 +345,28 @@ class Tools(unittest.TestCase):
             return sign1({1: -7}, KID, payload=payload)
         good = token(claims(_4=NOW + 60))
         self.refused([("Judged", reason, token(payload)) for reason, payload in (
-            ("expired 2023-11-14T22:13:20Z, and it is 2023-11-14T22:13:20Z", claims(_4=NOW)),
-            ("expired", claims(_4=-1)), ("exp isn't a finite time", claims(_4=float("inf"))),
-            ("exp isn't a finite time", claims(_4=float("-inf"))), ("nbf isn't a finite time", claims(_5=float("-inf"))),
-            ("for a receiver, 'you', and none is named", claims(_3="you")), ("for a receiver, None, and none", claims(_3=None)),
-            ("for a receiver, \\['a', 'b'\\], and none", claims(_3=["a", "b"])),
-            ("not before", claims(_5=NOW + 1)), ("not before", claims(_5=NOW + 0.5)), ("not before", claims(_5=1 << 63)),
-            ("exp isn't a number", claims(_4="2033")), ("exp isn't a number", claims(_4=True)), ("exp isn't a number", claims(_4=None)),
-            ("exp isn't a finite time", claims(_4=float("nan"))), ("exp isn't a number", cbor2.dumps({4: cbor2.CBORTag(1, NOW + 60)})),
-            ("isn't a claims set", b"hi"), ("isn't a claims set", cbor2.dumps([1])), ("isn't a claims set", b""),
-            ("bytes after the item", claims(_4=NOW + 60) + b"\0"), ("the key 4 twice", h("a2041a7fffffff0401")),
-            ("isn't a claims set", cbor2.dumps({b"x": 1})), ("a number, a text nor bytes", h("a1f401")),
-            ("the item is cut off", claims(_4=NOW + 60)[:-1]), ("more than 64 levels", h("a16178" + "81" * 100 + "00")),
+            ("expired \\(exp 2023-11-14T22:13:20Z, iss 'me'; it is 2023-11-14T22:13:20Z\\)$", claims(_4=NOW)),
+            ("expired", claims(_4=-1)), ("exp is not a finite time", claims(_4=float("inf"))),
+            ("exp is not a finite time", claims(_4=float("-inf"))), ("nbf is not a finite time", claims(_5=float("-inf"))),
+            ("for a receiver, and none is named here \\(iss 'me', aud 'you';", claims(_3="you")), ("aud is neither a string nor", claims(_3=None)),
+            ("none is named here .*\\['a', 'b'\\]", claims(_3=["a", "b"])), ("aud is neither a string nor", claims(_3=["a", 1])),
+            ("not valid yet", claims(_5=NOW + 1)), ("not valid yet", claims(_5=NOW + 0.5)), ("nbf is not a number", claims(_5=1 << 63)),
+            ("exp is not a number", claims(_4="2033")), ("exp is not a number", claims(_4=True)), ("exp is not a number", claims(_4=None)),
+            ("exp is not a finite time", claims(_4=float("nan"))), ("exp is not a number", cbor2.dumps({4: cbor2.CBORTag(1, NOW + 60)})),
+            ("not one item", b"hi"), ("not a map", cbor2.dumps([1])), ("not one item", b""), ("not one item", claims(_4=NOW + 60) + b"\0"),
+            ("a claim is there twice", h("a2041a7fffffff0401")), ("an integer of 64 bits nor a string", cbor2.dumps({b"x": 1})),
+            ("an integer of 64 bits nor a string", h("a1f401")), ("not one item", claims(_4=NOW + 60)[:-1]),
+            ("not one item", h("a16178" + "81" * 300 + "00")),
         )], "--now", str(NOW), good=good)
         self.passes(token(claims(_4=NOW + 0.5, _5=NOW)) + token(claims()), "--now", str(NOW))
-        self.assertIn("no claim exp", self.verify(token(claims()), "--now", str(NOW), "--need", "exp", status=1)[1])
+        self.assertIn("(no exp, iss 'me'; it is ", self.verify(token(claims()), "--now", str(NOW), "--need", "exp", status=1)[1])
         self.passes(token(cbor2.dumps({3: ["a", "b"]})), "--now", str(NOW), "--aud", "b")
         self.passes(token(cbor2.dumps({3: ["a", "b"]})) + token(claims()), "--now", str(NOW), "--any-aud")
         self.passes(token(cbor2.dumps({3: "a"})))
         undefined = token(h("a10182f7f4"))
-        self.assertIn("of another issuer, [undefined, False]", self.verify(undefined, "--now", "--iss", "you", status=1)[1])
-        self.assertIn("another issuer, 'me'", self.verify(token(claims()), "--now", "--iss", "you", status=1)[1])
+        self.assertIn("of another issuer (iss [undefined, False]; it is ", self.verify(undefined, "--cwt", "--iss", "you", status=1)[1])
+        self.assertIn("of another issuer (iss 'me'; it is ", self.verify(token(claims()), "--cwt", "--iss", "you", status=1)[1])
+        self.assertIn("(no iss, no aud, exp 2", self.verify(token(cbor2.dumps({4: 1 << 33})), "--cwt", "--iss", "you", "--aud", "a", status=1)[1])
 
     def test_damage(self):
         """What can't be read ends the run, and nothing after it passes; what comes before does."""
@@ -373,7 +375,7 @@ class Tools(unittest.TestCase):
             with self.subTest(damage=damage):
                 out, told, status = self.verify(GOOD + h(damage) + GOOD, status=4)
                 self.assertEqual(out, GOOD)
-                self.assertRegex(told, rf"item 1 at 0: passed\nstopped: decode: .*({reason}).*\n  item 2 at {len(GOOD)}: ")
+                self.assertRegex(told, rf"item 1 at 0: passed: ES256, 64657631 \(\"dev1\"\)\nstopped: decode: .*({reason}).*\n  item 2 at {len(GOOD)}: ")
         for length in range(1, len(GOOD), 16):
             out, told, status = self.verify(GOOD + GOOD[:length], status=4)
             self.assertEqual(out, GOOD)
@@ -385,24 +387,29 @@ class Tools(unittest.TestCase):
 
     def test_arguments_and_keys(self):
         for status, words, *arguments in (
-            (2, "required: --keys"), (2, "unrecognized", "--keys", self.keys, "file"), (2, "invalid", "--keys", self.keys, "--aad", "xx"),
-            (2, "less than 0", "--keys", self.keys, "--now", "--leeway", "-1"),
-            (2, "are for --now", "--keys", self.keys, "--aud", "x"), (2, "are for --now", "--keys", self.keys, "--any-aud"),
-            (2, "one of them", "--keys", self.keys, "--now", "--aud", "x", "--any-aud"),
-            (2, "invalid whole_number value", "--keys", self.keys, "--now", "0", "--leeway", "9" * 400),
-            (2, "invalid seconds value", "--keys", self.keys, "--now", "9" * 5000), (2, "\\x1b[2J", "--keys", self.keys, "\x1b[2J"),
+            (2, "--keys/--key is missing"), (2, "  b: one word too many", "--keys", self.keys, "a", "b"), (2, "--aad: 'xx' isn't hex", "--keys", self.keys, "--aad", "xx"),
+            (2, "less than 0", "--keys", self.keys, "--cwt", "--leeway", "-1"), (2, "less than 0", "--keys", self.keys, "--now", "-1"),
+            (2, "are for --cwt", "--keys", self.keys, "--aud", "x"), (2, "are for --cwt", "--keys", self.keys, "--any-aud"),
+            (2, "--aud and --any-aud: one of them", "--keys", self.keys, "--cwt", "--aud", "x", "--any-aud"),
+            (2, "--json and --payloads: one of them", "--keys", self.keys, "--json", "--payloads"),
+            (2, "'1x' isn't seconds, nor as 5m or 1h", "--keys", self.keys, "--cwt", "--leeway", "1x"),
+            (2, "standard input can be one of", "--keys", self.keys, "--payload", "-"), (2, "standard input can be one of", "--key", "-"),
+            (3, "nosuch: no such file", "--key", self.keys, "nosuch"), (3, "/: a folder", "--keys", self.keys, "/"),
+            (4, "/no/x: no such folder", "--keys", self.keys, "-o", "/no/x"),
+            (2, "10^16 or more", "--keys", self.keys, "--now", "0", "--leeway", "9" * 400),
+            (2, "is no time", "--keys", self.keys, "--now", "9" * 5000), (3, "\\x1b[2J: no such file", "--keys", self.keys, "\x1b[2J"),
             (3, "deep: JSON of too many levels", "--keys", self.put("deep", b"[" * 100_000)),
-            (3, "surrogates", "--keys", self.put("half.json", b'{"kty":"oct","k":"AAAA","kid":"\\ud800"}')),
-            (2, "invalid seconds value", "--keys", self.keys, "--now", "tomorrow"),
-            (3, "No such file", "--keys", "nosuch"), (3, "no key in it", "--keys", self.put("text", b"hello")),
-            (3, "no key in it", "--keys", self.put("empty", b"")), (3, "no key in it", "--keys", self.put("none.json", b'{"keys": []}')),
+            (3, "isn't a text in Unicode", "--keys", self.put("half.json", b'{"kty":"oct","k":"AAAA","kid":"\\ud800"}')),
+            (2, "is no time", "--keys", self.keys, "--now", "tomorrow"),
+            (3, "nosuch: no such file", "--keys", "nosuch"), (3, "no PEM, DER, ssh or JWK", "--keys", self.put("text", b"hello")),
+            (3, "it is empty", "--keys", self.put("empty", b"")), (3, "no key in it", "--keys", self.put("none.json", b'{"keys": []}')),
             (3, "not a good key", "--keys", self.put("bad.pem", b"-----BEGIN PUBLIC KEY-----\nAAAA\n-----END PUBLIC KEY-----\n")),
             (3, "openssl x509", "--keys", self.put("cert.pem", b"-----BEGIN CERTIFICATE-----\nAAAA\n-----END CERTIFICATE-----\n")),
             (3, "not a good key", "--keys", self.put("point", cbor2.dumps([{1: 2, -1: 1, -2: bytes(32), -3: bytes(32)}]))),
             (3, "isn't for signatures", "--keys", self.put("x25519", cbor2.dumps([{1: 1, -1: 4, -2: bytes(32)}]))),
             (3, "its use is 'enc'", "--keys", self.put("enc", b'{"kty":"oct","k":"AAAA","use":"enc"}')),
             (3, "without padding", "--keys", self.put("pad", b'{"kty":"oct","k":"AAA="}')),
-            (3, "several keys in one PEM", "--keys", self.put("two.pem", pem(P256) + pem(OTHER))),
+            (3, "several keys in one file", "--keys", self.put("two.pem", pem(P256) + pem(OTHER))),
             (3, "neither to sign nor to verify", "--keys", self.put("wrap", cbor2.dumps({**to_cose(P256, b"x"), 4: [5]}))),
             (3, "an alg that is neither", "--keys", self.put("alg", cbor2.dumps({**to_cose(P256, b"x"), 3: [-7]}))),
             (3, "'k' is there twice", "--keys", self.put("twice", b'{"kty":"oct","k":"AAAA","k":"AAAB"}')),
@@ -447,12 +454,85 @@ class Tools(unittest.TestCase):
         for pipe in (process.stdin, process.stdout, process.stderr):
             pipe.close()
 
+    def test_what_is_written(self):
+        """Messages from a file, their payloads or lines of JSON, into a new file."""
+        token = sign1({1: -7}, KID, payload=cbor2.dumps({1: "me", 4: NOW + 60, "room": [b"\1", 1.5, {2: None}], 8: cbor2.CBORTag(1, 2)}))
+        both, text = self.put("both.cbor", GOOD + flipped(GOOD)), f'item 1 at 0: passed: ES256, 64657631 ("dev1")\n'
+        out, told, _ = self.verify(b"", both, status=1)
+        self.assertEqual((out, told[:len(text)]), (GOOD, text))
+        self.assertEqual(self.verify(b"", both, "--payloads", status=1)[0], b"hi")
+        self.assertEqual(self.verify(b"", both, "--quiet", "--json", status=1)[1].count("\n"), 3)
+        signers = [{"alg": "ES256", "kid_hex": "64657631", "kid": "dev1"}]
+        lines = [{"item": 1, "offset": 0, "verdict": "passed", "signatures": signers, "payload_hex": "6869", "payload": "hi"},
+                 {"item": 2, "offset": len(GOOD), "verdict": "refused: Judged",
+                  "reason": "ES256 under dev1.pem, 64657631 (\"dev1\"): the signature isn't good"}]
+        self.assertEqual(list(map(json.loads, self.verify(b"", both, "--json", status=1)[0].splitlines())), lines)
+        line = json.loads(self.verify(token, "--json", "--now", str(NOW), status=0)[0])
+        self.assertEqual(line["claims"], {"iss": "me", "exp": NOW + 60, "room": ["hex:01", 1.5, {"2": None}], "cnf": {"tag": 1, "value": 2}})
+        # A label that could be taken for another one isn't shown as if it were that.
+        for other in ({"iss": "me"}, {"1": "me"}, {4: NOW + 60, "exp": 0}, {"x": {"-1": 0}}):
+            line = json.loads(self.verify(sign1({1: -7}, KID, payload=cbor2.dumps(other)), "--json", "--now", str(NOW), status=0)[0])
+            self.assertEqual(line["payload_hex"], cbor2.dumps(other).hex())
+            self.assertNotIn("claims", line)
+        new = os.path.join(self.folder, "passed.cbor")
+        self.assertEqual(self.verify(b"", both, "-o", new, status=1)[0], b"")
+        with open(new, "rb") as file:
+            self.assertEqual(file.read(), GOOD)
+        self.assertIn(f"{new}: it is there already", self.verify(GOOD, "-o", new, status=4)[1])
+        self.verify(flipped(GOOD), "-o", new + "2", status=1)
+        self.assertFalse(os.path.exists(new + "2"))
+        two = signed([({1: -7}, KID, ES256), ({1: -8}, {4: b"ed"}, ED.sign)])
+        self.assertIn('passed: ES256, 64657631 ("dev1"); EdDSA, 6564 ("ed")\n', self.verify(two, status=0)[1])
+        self.assertIn("passed: ES256, no key id\n", self.verify(sign1({1: -7}, {}), keys=self.put("alone.pem", pem(P256)), status=0)[1])
+
+    def test_detached_payload(self):
+        image, other = self.put("image", b"image" * 30_000), self.put("other", b"imagE" * 30_000)
+        whole = sign1({1: -7}, KID, payload=b"image" * 30_000)
+        parts = cbor2.loads(whole).value
+        message = tag(18, [*parts[:2], None, parts[3]])
+        alone = self.put("alone.pem", pem(P256))
+        for keys in (self.keys, alone):
+            self.passes(message, "--payload", image, keys=keys, as_bytes=whole)
+            self.passes(b"\xd2\x9f" + message[2:] + b"\xff", "--payload", image, keys=keys, as_bytes=whole)
+            for status, words, data, path in (
+                (1, "refused: Judged\n  ES256 under ", message, other), (1, "one that doesn't", whole, image), (1, "one that doesn't", whole, other),
+                (1, "more than one message", message * 2, image), (1, "the input is empty", b"", image), (3, "nosuch: no such file", message, "nosuch"),
+                (1, "refused: Shape\n", tag(18, [b"", {}, None]), image), (1, "refused: OtherTag\n", b"\xd8\x3d" + message, image),
+            ):
+                with self.subTest(words=words):
+                    out, told, _ = self.verify(data, "--payload", path, keys=keys, status=status)
+                    self.assertEqual(out, b"")
+                    self.assertIn(words, told)
+        self.assertIn("--payload names the file", self.verify(message, status=1)[1])
+        token = sign1({1: -7}, KID, payload=claims(_4=NOW + 60))
+        parts = cbor2.loads(token).value
+        detached, payload = b"\xd8\x3d" + tag(18, [*parts[:2], None, parts[3]]), self.put("claims", parts[2])
+        self.passes(detached, "--payload", payload, "--now", str(NOW), as_bytes=token)
+        self.assertIn("expired", self.verify(detached, "--payload", payload, "--now", str(NOW + 60), status=1)[1])
+
+    def test_allowed_algorithms(self):
+        """By the rules of cose-ask over keys that are for these alone."""
+        self.passes(GOOD, "--alg", "EdDSA", "--alg", "ES256")
+        self.refused([("Judged", "for another algorithm \\(ES256, ", sign1({1: -7}, KID))], "--alg", "ESP256", good=sign1({1: -9}, KID))
+        macs = self.put("macs", cbor2.dumps([{1: 4, 2: b"m", -1: SECRET}, {**to_cose(P256, b"dev1"), 3: -9}]))
+        self.assertIn("no key has its key id", self.verify(GOOD, "--alg", "ES256", keys=macs, status=1)[1])
+        self.assertIn("--alg: no key is for HS256/64", self.verify(GOOD, "--alg", "HS256/64", keys=macs, status=3)[1])
+        self.assertIn("'none': not one of ES256 ", self.verify(GOOD, "--alg", "none", status=3)[1])
+
+    def test_tokens_that_are_not_checked(self):
+        """Said once, of the first message that passes."""
+        token, note = sign1({1: -7}, KID, payload=claims(_4=1)), "  item 2 looks like a token; without --cwt its exp and nbf aren't checked\n"
+        self.assertEqual(self.verify(flipped(GOOD) + token * 2, "--quiet", status=1)[1].split("isn't good\n")[1], note + "passed 2, refused 1\n")
+        for payload in (claims(), b"hi", b"", b"\xa1\x04", cbor2.dumps({4: bytes(5000)})):
+            self.assertNotIn("token", self.verify(sign1({1: -7}, KID, payload=payload), status=0)[1])
+        self.assertNotIn("token", self.verify(token, "--now", "0", status=0)[1])
+
     def test_names_that_a_terminal_obeys(self):
         folder = folder_of(self.folder, "dev1", P256)
         with open(os.path.join(folder, "\x1b[2J\n.pem"), "wb") as file:
             file.write(b"-----BEGIN nothing")
         told = self.verify(GOOD, keys=folder, status=0)[1]
-        self.assertIn("keys: \\x1b[2J\\x0a.pem: key 1: no PEM", told)
+        self.assertIn("/\\x1b[2J\\x0a.pem: not a good key", told)
         self.assertNotIn("\x1b", told)
 
     def test_what_nobody_expects(self):
@@ -548,7 +628,8 @@ class Tools(unittest.TestCase):
     def test_help_and_version(self):
         for tool in ("cose-verify", "cose-key", "cose-make"):
             self.assertTrue(run(tool, "--help", status=0)[0].startswith(b"usage: " + tool.encode()))
-            self.assertRegex(run(tool, "--version", status=0)[0].decode(), rf"^{tool} \(.*, python3 .*, cryptography .*\)\n$")
+            self.assertRegex(run(tool, "x", "--version", status=0)[0].decode(), rf"^{tool} 0\.8( \(\d{{4}}-\d\d-\d\d, [0-9a-f]+\))?\n$")
+            self.assertEqual(run(tool, "--strikt", "-h", status=0)[0], run(tool, "--help", status=0)[0])
             with open("/dev/full", "wb") as full:
                 self.assertEqual(subprocess.run([os.path.join(HERE, tool), "--help"], stdout=full, stderr=full).returncode, 4)
         self.assertIn(b"-7 ES256", run("cose-verify", "--help-algorithms", status=0)[0])
@@ -584,7 +665,7 @@ class Tools(unittest.TestCase):
         kept = self.put("kept", b"".join(line for line in accepted.splitlines(True) if flipped(GOOD)[-64:].hex().encode() not in line))
         wanted, lines, _ = run_program("cose-pass", kept, data=data)
         self.assertTrue(out == wanted)
-        self.assertEqual(re.sub("\n  .*", "", told), lines.decode())
+        self.assertEqual(re.sub("\n  .*|: ES256, .*", "", told), lines.decode())
 
     def test_live(self):
         """A message is written while the sender waits."""
@@ -613,8 +694,9 @@ class Tools(unittest.TestCase):
                 cwt = ("--cwt", '{"iss": "me", "exp": "+1h", "cti": "hex:07"}')
                 for arguments in layouts if algorithm in ("ES256", "HS256") else layouts[:1]:
                     made = run("cose-make", "--key", private, *cwt, *arguments, status=0)[0]
-                    self.passes(made, "--now", "--strict", keys=keys, as_bytes=made[2:] if "--tag61" in arguments else made)
-        self.assertEqual(run("cose-key", "--new", "ES256", "-o", private, status=4)[0], b"")
+                    self.passes(made, "--cwt", "--strict", keys=keys, as_bytes=made[2:] if "--tag61" in arguments else made)
+        again = run("cose-key", "--new", "ES256", "--kid", "a", "-o", private, status=4)[:2]
+        self.assertEqual(again, (b"", f"cose-key: {private}: it is there already\n"))
 
     def test_what_is_made(self):
         secret = self.put("secret", b"00" * 31 + b"01\n")
@@ -630,28 +712,52 @@ class Tools(unittest.TestCase):
         self.assertEqual((out, status), (made, 0), told)
         private = self.put("dev1.private", private_pem(P256))
         given = {"iss": "a", "sub": "b", "aud": ["c", "d"], "exp": "2026-11-27T21:44:19Z", "nbf": 1.9, "iat": 0, "cti": "id",
-                 "-70000": {"1": "hex:ff"}, "scope": "read"}
-        wanted = {1: "a", 2: "b", 3: ["c", "d"], 4: 1795815859, 5: 1, 6: 0, 7: b"id", -70000: {1: b"\xff"}, "scope": "read"}
-        token = run("cose-make", "--key", private, "--kid", "dev1", "--cwt", json.dumps(given), status=0)[0]
+                 "-70000": {"1": "hex:ff"}, "scope": "read", "nonce": "hex:00", "intuse": 1, "room": 7}
+        wanted = {1: "a", 2: "b", 3: ["c", "d"], 4: 1795815859, 5: 1, 6: 0, 7: b"id", -70000: {1: b"\xff"}, 9: "read", 10: b"\0", 275: 1, "room": 7}
+        made = os.path.join(self.folder, "made.cbor")
+        run("cose-make", "--keys", private, "--kid", "dev1", "--cwt", json.dumps(given), "-o", made, status=0)
+        with open(made, "rb") as file:
+            token = file.read()
         self.assertEqual(cbor2.loads(cbor2.loads(token).value[2]), wanted)
         self.passes(token)
+        for path, why in ((made, "it is there already"), (made + "/x", "Not a directory"), ("/nosuch/x", "no such folder")):
+            told = run("cose-make", "--keys", private, "--cwt", "{}", "-o", path, status=4)[1]
+            self.assertEqual(told, f"cose-make: {path}: {why}\n")
+        given = self.put("given.json", b'{"iat": "now", "exp": "+1m"}')
+        made = cbor2.loads(run("cose-make", "--key", private, "--cwt", "@" + given, status=0)[0]).value
+        times = cbor2.loads(made[2])
+        self.assertTrue(time.time() - 60 < times[6] == times[4] - 60 <= time.time())
+        detached = cbor2.loads(run("cose-make", "--key", private, "--payload", given, "--detached", status=0)[0]).value
+        with open(given, "rb") as file:
+            covered = cbor2.dumps(["Signature1", detached[0], b"", file.read()])
+        r, s = (int.from_bytes(detached[3][at:at + 32], "big") for at in (0, 32))
+        P256.public_key().verify(utils.encode_dss_signature(r, s), covered, ec.ECDSA(hashes.SHA256()))
+        self.assertIsNone(detached[2])
 
     def test_wrong_makes(self):
         private, public = self.put("w.private", private_pem(P256)), self.put("w.pem", pem(P256))
         mine, cwt = ("--key", private), ("--key", private, "--cwt")
+        both = self.put("both", cbor2.dumps([to_cose(P256, b"dev1"), to_cose(OTHER, b"\1")]))
+        text = self.put("text.json", b"{x")
         for status, words, *arguments in (
-            (2, "required: --key"), (2, "one of the arguments --cwt --payload", *mine), (2, "invalid", *cwt, "{}", "--aad", "x"),
-            (3, "a public key", "--key", public, "--cwt", "{}"), (3, "No such file", "--key", "nosuch", "--cwt", "{}"),
-            (3, "not JSON", *cwt, "{"), (3, "not a JSON object", *cwt, "[]"),
+            (2, "--key/--keys is missing"), (2, "one of --cwt and --payload is missing", *mine), (2, "--aad: 'x' isn't hex", *cwt, "{}", "--aad", "x"),
+            (2, "--cwt: a word has to follow", *cwt), (2, "--cwt and --payload: one of them", *cwt, "{}", "--payload", "-"),
+            (2, "--tag61: it takes no word", *cwt, "{}", "--tag61=1"), (2, "--keyy: no such option", "--keyy", private), (2, "x: one word too", *cwt, "{}", "x"),
+            (3, "a public key", "--key", public, "--cwt", "{}"), (3, "nosuch: no such file", "--key", "nosuch", "--cwt", "{}"),
+            (3, "--cwt: not JSON at character 2\n", *cwt, "{"), (3, "--cwt: not a JSON object", *cwt, "[]"),
+            (3, f"to read the file {text}: --cwt @{text}", *cwt, text), (3, f"{text}: not JSON at character 2\n", *cwt, "@" + text),
+            (3, f"{both} has 2 keys, choose one by --kid: hex:01, dev1", "--key", both, "--cwt", "{}"),
+            (3, "2 keys, none with 78 (\"x\"): hex:01, dev1", "--key", both, "--cwt", "{}", "--kid", "x"),
             (3, "there twice", *cwt, '{"iss": "a", "iss": "b"}'), (3, "there twice", *cwt, '{"iss": "a", "1": "b"}'),
             (3, "isn't like +1h", *cwt, '{"exp": "soon"}'), (3, "not a time", *cwt, '{"exp": true}'), (3, "iss: not a text", *cwt, '{"iss": 5}'),
             (3, "isn't a text in Unicode", *cwt, '{"iss": "\\ud800"}'), (3, "isn't a text in Unicode", *cwt, '{"cti": "\\ud800"}'),
             (3, "too many levels", *cwt, '{"room": ' + "[" * 800 + "]" * 800 + "}"), (3, "too many levels", *cwt, "[" * 100_000),
             (3, "isn't like +1h", *cwt, '{"exp": "+%sh"}' % ("9" * 5000)), (3, "isn't like +1h", *cwt, '{"exp": "%s"}' % ("9" * 5000)),
             (3, "more than 64 bits", *cwt, '{"%s": 1}' % ("9" * 5000)), (3, "more than 64 bits", *cwt, '{"exp": "+%sh"}' % ("9" * 400)),
-            (3, "not hex", *cwt, '{"cti": "hex:0"}'), (3, "isn't for it", *cwt, "{}", "--alg", "ES384"),
-            (3, "isn't for it", *cwt, "{}", "--alg", "HS256/64"), (3, "not one of", *cwt, "{}", "--alg", "none"),
-            (3, "label 4 is in both", *cwt, "{}", "--kid", "a", "--protected", '{"4": "hex:00"}'), (4, "nosuch: No such file", *mine, "--payload", "nosuch"),
+            (3, "thousands of digits", *cwt, '{"exp": %s}' % ("9" * 5000)),
+            (3, "not hex", *cwt, '{"cti": "hex:0"}'), (3, "isn't for ES384", *cwt, "{}", "--alg", "ES384"),
+            (3, "isn't for HS256/64", *cwt, "{}", "--alg", "HS256/64"), (3, "not one of", *cwt, "{}", "--alg", "none"),
+            (3, "label 4 is in both", *cwt, "{}", "--kid", "a", "--protected", '{"4": "hex:00"}'), (3, "nosuch: no such file", *mine, "--payload", "nosuch"),
         ):
             with self.subTest(words=words):
                 out, told, _ = run("cose-make", *arguments, status=status)
@@ -684,6 +790,53 @@ class Tools(unittest.TestCase):
         self.assertEqual((done.returncode, os.stat(file.name).st_size), (3, 0))
         self.assertIn("2 keys have", run("cose-key", whole, whole, status=0)[1])
         self.assertIn("can be guessed", run("cose-key", "hex:-", data=b"0102", status=0)[1])
+        for name in (public_der(P256), public_ssh(P256), private_der(P256), private_ssh(P256)):
+            self.assertEqual(run("cose-key", "-", "--kid", "dev1", data=name, status=0)[0], cbor2.dumps([to_cose(P256, b"dev1")]))
+        self.assertEqual(cbor2.loads(run("cose-key", "raw:-", data=SECRET, status=0)[0]), [{1: 4, -1: SECRET}])
+
+    def test_thumbprint(self):
+        key = {-1: 1, 1: 2, 2: b"other", -2: h("65eda5a12577c2bae829437fe338701a10aaa375e1bb5b5de108de439c08551d"),
+               -3: h("1e52ed75701163f7f9e40ddf9f341b3dc9ba860af7e0ca7ca7e9eecd0084d19c")}
+        made = cbor2.loads(run("cose-key", "--thumbprint", self.put("rfc9679", cbor2.dumps(key)), status=0)[0])
+        self.assertEqual(made, [{**key, 2: h("496bd8afadf307e5b08c64b0421bf9dc01528a344a43bda88fadd1669da253ec")}])
+
+    def test_wrong_keys(self):
+        brainpool = ec.generate_private_key(ec.BrainpoolP256R1())
+        for status, words, *arguments in (
+            (2, "no key: name a file, or --new ALG"), (2, "--kid and --thumbprint: one of them", "--new", "ES256", "--kid", "a", "--thumbprint"),
+            (3, ": it is empty", self.put("empty", b"")), (3, ": it is empty", "raw:" + self.put("empty", b"")), (3, ": not hex", "hex:" + self.put("odd", b"0")),
+            (3, "nosuch: no such file", "nosuch"), (3, "nosuch: no such file", "raw:nosuch"), (3, "in files KID.pem", tempfile.mkdtemp(dir=self.folder)),
+            (3, "raw:FILE", self.put("random", b"\0" + SECRET)), (3, "an RSA key of 1024 bits", self.put("short.pem", pem(SHORT))),
+            (3, "brainpoolP256r1: not for signatures here", self.put("brain.pem", pem(brainpool))), (3, "brainpoolP256r1: not", self.put("brain.der", public_der(brainpool))),
+            (3, "the curve 'brainpoolP256r1'", self.put("brain", cbor2.dumps({1: 2, -1: 256, -2: SECRET, -3: SECRET}))),
+            (3, "X25519: not for signatures", self.put("x.pem", pem(x25519.X25519PrivateKey.generate()))),
+            (3, "an encrypted private key", self.put("locked.pem", P256.private_bytes(
+                serialization.Encoding.PEM, serialization.PrivateFormat.PKCS8, serialization.BestAvailableEncryption(b"word")))),
+            (3, "several keys in one file", self.put("two.pub", public_ssh(P256) + b"\n" + public_ssh(OTHER))),
+            (3, "not JSON at character 2", self.put("bad.jwk", b"{x")), (3, "no thumbprint of a secret", "--thumbprint", "--new", "HS256"),
+            (3, "for one key, and there are 2: hex:01, dev1", self.put("both", cbor2.dumps([to_cose(P256, b"dev1"), to_cose(OTHER, b"\1")])), "--kid", "a"),
+        ):
+            with self.subTest(words=words):
+                out, told, _ = run("cose-key", *arguments, status=status)
+                self.assertEqual(out, b"")
+                self.assertIn(words, told)
+                self.assertTrue(status == 2 or told.startswith("cose-key: ") and told.count("\n") == 1, told)
+
+
+def public_der(key):
+    return key.public_key().public_bytes(serialization.Encoding.DER, serialization.PublicFormat.SubjectPublicKeyInfo)
+
+
+def public_ssh(key):
+    return key.public_key().public_bytes(serialization.Encoding.OpenSSH, serialization.PublicFormat.OpenSSH)
+
+
+def private_der(key):
+    return key.private_bytes(serialization.Encoding.DER, serialization.PrivateFormat.TraditionalOpenSSL, serialization.NoEncryption())
+
+
+def private_ssh(key):
+    return key.private_bytes(serialization.Encoding.PEM, serialization.PrivateFormat.OpenSSH, serialization.NoEncryption())
 
 
 def folder_of(folder, name, key):

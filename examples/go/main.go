@@ -62,7 +62,7 @@ func longer(a, b int) int {
 	return a
 }
 
-// Check checks a sequence of messages within the usual limits. With ErrKeys and ErrStopped the lines are told too.
+// Check checks a sequence of messages within the usual limits. With ErrKeys and ErrStopped there are lines too.
 func Check(keys, aad, input []byte, strict bool) (Checked, error) {
 	passed := make([]byte, len(input))
 	lines := make([]byte, 4096)

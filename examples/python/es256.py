@@ -1,6 +1,6 @@
-"""Signatures that the caller checks: COSE_Sign1 with ES256 (RFC 9053, section 2.1), by `ask` and `pass_accepted` of cose_gate.py, and of an
-image by `stream_ask`. It makes a key and messages with Debian's python3-cbor2 and python3-cryptography, spoils some, and prints what passes:
-es256.py LIBRARY. Build and run: `bash scripts/c-library.sh python`."""
+"""Signatures that the caller verifies: COSE_Sign1 with ES256 (RFC 9053, section 2.1), by `ask_ruled` and `pass_digests` of cose_gate.py, and
+of one message by `verify`. It makes keys and messages with Debian's python3-cbor2 and python3-cryptography, spoils some, and prints what
+passes: es256.py LIBRARY. Build and run: `bash scripts/c-library.sh python`."""
 
 import sys
 
@@ -12,6 +12,7 @@ from cryptography.hazmat.primitives.asymmetric import ec, utils
 from cose_gate import Gate, Refused
 
 ALG, CRIT, KID, ES256, SIGN1 = 1, 2, 4, -7, 18
+KTY, EC2, CRV, P256, X, Y = 1, 2, -1, 1, -2, -3
 
 
 def covered_by(protected, aad, payload):
@@ -28,24 +29,22 @@ def sign(key, kid, aad, payload, more={}):
     return cbor2.dumps(cbor2.CBORTag(SIGN1, [protected, {KID: kid}, payload, signature]))
 
 
-def is_good(question, keys, payload=b""):
-    """Whether the signature is good, under the key of the message's key id. `payload` is what `covered` lacks, as `stream_ask` gives it. No
-    critical label is known here (RFC 9052, section 3.1)."""
-    if question.kind != SIGN1 or not question.protected:
+def key_set(**keys):
+    """A COSE_KeySet of these public keys, by their key ids (RFC 9052, section 7)."""
+    points = {kid: key.public_numbers() for kid, key in keys.items()}
+    parts = {kid: {CRV: P256, X: it.x.to_bytes(32, "big"), Y: it.y.to_bytes(32, "big")} for kid, it in points.items()}
+    return cbor2.dumps([{KTY: EC2, 2: kid.encode(), **more} for kid, more in parts.items()])
+
+
+def is_good(one, key):
+    """Whether a signature is good under a key that fits."""
+    if one.algorithm != ES256 or len(one.signature) != 64:
         return False
-    header, other = cbor2.loads(question.protected), cbor2.loads(question.unprotected)
-    if header.get(ALG) != ES256 or CRIT in header or CRIT in other:
-        return False
-    key = keys.get(other.get(KID))
-    if key is None or len(question.signature) != 64:
-        return False
-    r, s = (int.from_bytes(part, "big") for part in (question.signature[:32], question.signature[32:]))
-    digest = hashes.Hash(hashes.SHA256())
-    digest.update(question.covered)
-    digest.update(payload)
+    r, s, x, y = (int.from_bytes(part, "big") for part in (one.signature[:32], one.signature[32:], key.x_or_e, key.y))
     try:
-        key.verify(utils.encode_dss_signature(r, s), digest.finalize(), ec.ECDSA(utils.Prehashed(hashes.SHA256())))
-    except InvalidSignature:
+        public = ec.EllipticCurvePublicNumbers(x, y, ec.SECP256R1()).public_key()
+        public.verify(utils.encode_dss_signature(r, s), one.covered, ec.ECDSA(hashes.SHA256()))
+    except (InvalidSignature, ValueError):
         return False
     return True
 
@@ -53,34 +52,34 @@ def is_good(question, keys, payload=b""):
 def main(words):
     gate = Gate(words[1])
     signer, other = ec.generate_private_key(ec.SECP256R1()), ec.generate_private_key(ec.SECP256R1())
-    keys = {b"01": signer.public_key(), b"02": other.public_key()}
+    keys = key_set(k1=signer.public_key(), k2=other.public_key())
     aad = b"today"
-    good = sign(signer, b"01", aad, b"open the door")
+    good = sign(signer, b"k1", aad, b"open the door")
     spoiled = good.replace(b"open", b"lock")
-    renamed = good.replace(b"\x42\x30\x31", b"\x42\x30\x32")
-    critical = sign(signer, b"01", aad, b"open the door", {CRIT: ["room"], "room": 1})
+    renamed = good.replace(b"\x42k1", b"\x42k2")
+    critical = sign(signer, b"k1", aad, b"open the door", {CRIT: ["room"], "room": 1})
     input = good + spoiled + renamed + critical
 
-    questions = gate.ask(aad, input)
-    accepted = [question for question in questions if is_good(question, keys)]
-    checked = gate.pass_accepted(accepted, aad, input)
-    assert len(questions) == 4 and len(accepted) == 1, (len(questions), len(accepted))
+    items, parts = gate.ask_ruled(keys, aad, input), gate.key_parts(keys)
+    asked = [one for item in items for one in item.signatures]
+    accepted = [one.digest for one in asked if any(is_good(one, parts[place]) for place in one.keys)]
+    checked = gate.pass_digests(accepted, aad, input)
+    assert [item.number for item in items] == [1, 2, 3, 4] and len(asked) == 3 and len(accepted) == 1, (items, accepted)
+    assert items[3].why == "a critical label is not understood", items[3]
     assert checked.passed == good and checked.some_refused, checked
     # A yes to one message is none to the same bytes under another key id, which no signature covers.
-    assert gate.pass_accepted(accepted, aad, renamed).passed == b""
-    assert gate.pass_accepted([], aad, input).passed == b""
+    assert gate.pass_digests(accepted, aad, renamed).passed == b""
+    assert gate.pass_digests([], aad, input).passed == b""
     print(checked.lines, end="")
-    image = sign(signer, b"01", aad, bytes(1 << 20))
-    question, payload = gate.stream_ask(aad, image)
-    assert payload == bytes(1 << 20) and len(question.record) < 256
-    assert is_good(question, keys, payload)
-    assert not is_good(question, keys, payload[:-1] + b"\1")
-    try:
-        gate.stream_ask(aad, image + b"\xff")
-    except Refused as fault:
-        assert str(fault) == "ExtraneousData"
-    else:
-        raise AssertionError("bytes after the image were taken")
+    image = sign(signer, b"k1", aad, bytes(1 << 20))
+    assert gate.verify(keys, aad, image, is_good) == bytes(1 << 20)
+    for message, why in ((image[:-1] + b"\0", "Judged"), (image + b"\xff", "ExtraneousData"), (critical, items[3].why)):
+        try:
+            gate.verify(keys, aad, message, is_good)
+        except Refused as fault:
+            assert str(fault) == why, fault
+        else:
+            raise AssertionError("taken: " + why)
 
 
 if __name__ == "__main__":

@@ -1,6 +1,6 @@
 #!/usr/bin/env bash
 # run.sh [--try]: makes keys and signed messages in a folder of its own, checks the signatures with es256.sh, and compares what passes with
-# what should. With --try the programs are built unproved, in two minutes (scripts/try.sh). ASK and PASS are other programs than cose-ask and
+# what should. With --try the programs are built unproved first (scripts/try.sh). ASK and PASS are other programs than cose-ask and
 # cose-pass at the top, if they are set.
 set -u
 here=$(cd "$(dirname "$(readlink -f "${BASH_SOURCE[0]}")")" && pwd)

@@ -1,8 +1,8 @@
 -- What is written of keys and headers that were read.
-use Rattle.std.proofs.Common.{◌≡◌, ◌↔◌, ℕ, List, Option, None, Some, Bool, true, false, IsTrue, refl, sym, ap, subst, ◌∙◌, inl, inr}
+use Rattle.std.proofs.Common.{◌≡◌, ◌↔◌, ℕ, List, Option, None, Some, IsTrue, refl, sym, ap, subst, ◌∙◌, inl, inr}
 use Rattle.std.proofs.lemmas.Slice.Eq.{bytes_eq-Decides}
 use Rattle.std.specs.Global.{Vec}
-use Rattle.std.specs.Prelude.{option_map, Result, Ok, Err, IfOk, IfErr, MatchBool, MatchResult}
+use Rattle.std.specs.Prelude.{option_map, Result, Ok, Err, IfOk, IfErr, MatchResult}
 use Rattle.std.specs.Str.{bytes_eq}
 use Rattle.coset.specs.CborOrdering.{CborOrdering}
 use Rattle.coset.specs.CoseError.{CoseError}
@@ -63,8 +63,3 @@ alike t s x y S e f law = (
   λ h. law.0 (e ∙ ap Some ((bytes_eq-Decides x y).0 h) ∙ sym f),
   λ h. let q : Some x ≡ Some y = sym e ∙ (law.1 h ∙ f) in let i : x ≡ y = cc in (bytes_eq-Decides x y).1 i,
 )
-
--- a result that is yes exactly if P holds
-pub is_so : (b : Bool) (P : Type 0) → MatchBool b P (P → ⊥) → IsTrue b ↔ P
-is_so true P h = (λ _. h, λ _. refl)
-is_so false P h = (λ e. let no : false ≡ true = e in absurd (let f : ⊥ = cc in f), λ p. absurd (h p))

@@ -1,6 +1,5 @@
 -- What is asked and passed if the answers come from elsewhere.
-use Rattle.std.specs.Prelude.{◌≡◌, ◌⊎◌, ◌<◌, ℕ, List, [], ◌++◌, flat_map, Option, Some, Bool, true}
-use Rattle.std.specs.Io.KnownBytes.{Appends}
+use Rattle.std.specs.Prelude.{◌≡◌, ℕ, List, [], ◌++◌, flat_map, Option, Some, Bool, true}
 use Rattle.cose_gate.specs.Asked.{IsFront}
 use Rattle.cose_gate.specs.Counts.{Counts}
 use Rattle.cose_gate.specs.Findings.{Bounds, usual}
@@ -8,11 +7,9 @@ use Rattle.cose_gate.specs.Beginning.{aad_of}
 use Rattle.cose_gate.specs.KeyFields.{KeyFields}
 use Rattle.cose_gate.specs.Program.{Devices}
 use Rattle.cose_gate.specs.Questions.{Question}
-use Rattle.cose_gate.specs.RecordFraming.{framed}
-use Rattle.cose_gate.specs.Records.{record_of, is_among}
+use Rattle.cose_gate.specs.Records.{record_of}
 use Rattle.cose_gate.specs.Run.{Step, Course, questions_of, output_of, passed_count, refused_count}
-use Rattle.cose_gate.specs.Telling.{RanTold, EndsTold}
-use Rattle.callers.specs.Judging.{allows, key_ids_of}
+use Rattle.cose_gate.specs.Telling.{EndsTold}
 
 -- the rule of a judge that tells what it is asked
 abbrev pub always : Question → Bool
@@ -46,18 +43,6 @@ pub record IsPassedBy (yes : Question → Bool) (aad input output : List ℕ) (c
   pub passed : counts.passed ≡ passed_count yes aad steps
   pub refused : counts.refused ≡ refused_count yes aad steps
 
--- the bytes are records of these keys, one after another
-abbrev pub AreRecords : List ℕ → List (List ℕ) → Type 0
-AreRecords accepted keys = accepted ≡ flat_map framed keys
-
-abbrev pub AreNoRecords : List ℕ → Type 0
-AreNoRecords accepted = (keys : List (List ℕ)) → AreRecords accepted keys → ⊥
-
-abbrev pub IsPassed : List ℕ → List ℕ → List ℕ → List ℕ → Counts → Type 0
-IsPassed accepted aad input output counts =
-    (keys : List (List ℕ)) × AreRecords accepted keys
-    × IsPassedBy (is_among keys) aad input output counts
-
 -- how the program ends, without what it told: by AADHEX, and if it is handed the bytes of KEYS and
 -- the external data as they are
 abbrev pub EndsWithin : Bounds → (List KeyFields → Question → Bool) → Option (List ℕ)
@@ -69,25 +54,3 @@ abbrev pub EndsOver : Bounds → (List KeyFields → Question → Bool) → List
     → Devices → Devices → ℕ → Type 0
 EndsOver limits says keys aad old new status =
     EndsTold limits says (Some keys) (Some aad) old new status (λ _. Unit {0})
-
--- the program ran with a judge by key ids. What it wrote, its status, and the ids that the judge
--- was asked about are those of one run.
-abbrev pub RanByIds : Bounds → List (List ℕ) → List ℕ → Devices → Devices → List (List ℕ)
-    → List (List ℕ) → ℕ → Type 0
-RanByIds limits ids aad old new asked asked' status =
-    RanTold limits (allows ids) aad old new status
-    (λ questions. asked' ≡ asked ++ key_ids_of questions) (λ _. Unit {0})
-
--- how the program ends with the records that were accepted: if they are records, after a run that
--- passes what they are of; else nothing was read and nothing written
-abbrev pub EndsAccepted : Bounds → List ℕ → List ℕ → Devices → Devices → ℕ → Type 0
-EndsAccepted limits accepted aad old new status =
-    (AreNoRecords accepted × (status ≡ 3) × (new ≡ old))
-    ⊎ ((status ≡ 4) × (new ≡ old))
-    ⊎ ((keys : List (List ℕ)) × AreRecords accepted keys
-    × RanTold limits (is_among keys) aad old new status (λ _. Unit {0}) (λ _. Unit {0}))
-
--- all of the bytes that were to come, if these are known, were written as they came
-abbrev pub IsHandedOn : Devices → Devices → Type 0
-IsHandedOn old new =
-    (input : List ℕ) → old.left ≡ Some input → Appends old.written new.written input

@@ -1,6 +1,6 @@
 -- Why no further value is read.
-use Rattle.std.specs.Prelude.{◌≡◌, ◌≢◌, ℕ, ◌<◌, List, [], ◌∷◌, ◌++◌, length, Bool, true}
-use Rattle.std.specs.Prelude.{Option, None, Some}
+use Rattle.std.specs.Prelude.{◌≡◌, ◌≢◌, ℕ, ◌<◌, List, [], ◌++◌, length, Bool, true}
+use Rattle.std.specs.Prelude.{Option, Some}
 use Rattle.ciborium.specs.Damage.{Damage}
 use Rattle.ciborium.specs.declared.de.Error.{Error}
 use Rattle.ciborium.specs.declared.End.{End}
@@ -9,7 +9,6 @@ use Rattle.ciborium.specs.Items.{nesting}
 use Rattle.ciborium.specs.Reading.{FailsAt}
 use Rattle.ciborium.specs.Tree.{Tree, Trees, tree_count}
 use Rattle.ciborium.specs.Typed.{IsUnread, LeavesRest}
-use Rattle.ciborium.specs.declared.tag.Required.{Required}
 use Rattle.ciborium.specs.declared.value.Kind.{Kind}
 
 -- why no value is at the front of `rest`, which begins at the place `at`; the fault came at the
@@ -40,9 +39,3 @@ pub record Fewer (n : ℕ) (input : List ℕ) (e : Error End) : Type 0 where
   pub reads : ReadsAll front nesting done
   pub place : ℕ
   pub why : NoValue (length front) rest place e
-
--- the first number that is there
-abbrev pub first_number : List (Option (Required ℕ 1)) → Option ℕ
-first_number [] = None
-first_number (None ∷ ns) = first_number ns
-first_number (Some n ∷ ns) = Some n.0

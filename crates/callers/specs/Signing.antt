@@ -1,8 +1,7 @@
 -- What is said about a signature or a tag.
-use Rattle.std.specs.Prelude.{◌≡◌, ◌↔◌, ℕ, List, Option, Some, Bool, IsTrue, IsSomeAnd, Result, Ok, Err}
+use Rattle.std.specs.Prelude.{ℕ, List, Option, IsSomeAnd, Result, Ok, Err}
 use Rattle.coset.specs.CallerFault.{Fault}
 use Rattle.coset.specs.CallerFault.TheVariants as fault
-use Rattle.coset.specs.CoseError.{CoseError}
 use Rattle.coset.specs.Faults.{CantWrite}
 use Rattle.callers.specs.declared.signing.Refused.{Refused}
 
@@ -18,8 +17,3 @@ Verified good covered signature (Ok u) = IsGood good covered signature
 Verified good covered signature (Err (fault.Caller e)) =
     IsGood (λ b s. good b s → ⊥) covered signature
 Verified good covered signature (Err (fault.Cose c)) = CantWrite covered c
-
--- whether the bytes are the covered ones, or why these can't be written
-abbrev pub SaysCovered : Option (List ℕ) → List ℕ → Result Bool CoseError → Type 0
-SaysCovered covered b (Ok same) = IsTrue same ↔ (covered ≡ Some b)
-SaysCovered covered b (Err e) = CantWrite covered e

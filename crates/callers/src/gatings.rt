@@ -4,7 +4,6 @@ ghost use Rattle.std.specs.Prelude.{◌≡◌, ℕ, List, IfOk, false, true};
 ghost use Rattle.cose_gate.specs.Findings.{usual_exact};
 ghost use Rattle.cose_gate.specs.Run.{Step, Run};
 ghost use Rattle.cose_gate.specs.Terms.{limits_by};
-ghost use Rattle.callers.specs.Gatings.{limits_of};
 ghost use Rattle.callers.specs.Judging.{RelayedRun, allows};
 ghost use Rattle.callers.specs.Sides.{known_of};
 
@@ -14,15 +13,6 @@ use cose_gate::{
     Counts, Decoder, End, GateFault, Limits, Mem, gate_strict, gate_strict_with, gate_with,
 };
 use std::alloc::Global;
-
-/// How a relay gates.
-#[derive(Debug, Clone, Copy)]
-pub struct Gating {
-    /// How deep items and their headers are followed.
-    pub limits: Limits,
-    /// Whether only messages pass that are already as they would be written.
-    pub strict: bool,
-}
 
 /// As `relay`, by the strict gate: only what is already as it would be written.
 pub fn relay_strict(
@@ -86,26 +76,5 @@ pub fn relay_strict_with(
     match gate_strict_with(alloc, limits, &mut decoder, &mut out, tally, aad, judge) {
         Ok(counts) => Ok((out.into_inner(), counts)),
         Err(fault) => Err(fault),
-    }
-}
-
-/// As `relay`, with these limits, and strict if the gating is.
-pub fn relay_by(
-    alloc: Global,
-    gating: Gating,
-    input: &[u8],
-    aad: &[u8],
-    judge: &mut KeyIds,
-    tally: &mut Tally,
-) -> Result<(Vec<u8>, Counts), GateFault<End>>
-    ensures run { (ss : List Step) (rest : List ℕ)
-        → Run (limits_of gating) (allows (known_of judge.old)) aad.now 0 input.now ss rest
-        → IfOk result (λ r. RelayedRun (known_of judge.old) aad.now ss rest r.0.items r.1) }
-    ensures known { known_of judge.new ≡ known_of judge.old }
-{
-    if gating.strict {
-        relay_strict_with(alloc, gating.limits, input, aad, judge, tally)
-    } else {
-        relay_with(alloc, gating.limits, input, aad, judge, tally)
     }
 }

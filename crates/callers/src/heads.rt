@@ -1,15 +1,13 @@
 //! A walk over heads. `ciborium_ll` is the one crate that it names.
-ghost use Rattle.std.specs.Prelude.{◌≡◌, ◌≢◌, ◌++◌, ◌<◌, ◌^◌, ℕ, List, length, IfOk, IfErr, OnOk};
-ghost use Rattle.std.specs.Prelude.{IfSome, flat_map, [], ◌∷◌, Some};
-ghost use Rattle.std.specs.Io.KnownBytes.{Appends};
+ghost use Rattle.std.specs.Prelude.{◌≡◌, ◌++◌, ℕ, List, length, IfOk, IfErr, OnOk, flat_map, Some};
 ghost use Rattle.ciborium_ll.specs.Title.{Begins, title_of};
 ghost use Rattle.ciborium_ll.specs.Copies.{Copies};
 ghost use Rattle.ciborium_ll.specs.Views.{memory_of};
 ghost use Rattle.ciborium_ll.specs.declared.hdr.Header.{Header as Head};
-ghost use Rattle.ciborium_ll.specs.declared.hdr.Header.TheVariants.{Array, Bytes, Positive};
+ghost use Rattle.ciborium_ll.specs.declared.hdr.Header.TheVariants.{Array, Positive};
 ghost use Rattle.callers.specs.Heads.{IsNoHead, len_of};
 
-use ciborium_ll::{Decoder, Encoder, End, Error, Header, Mem, RecodeError, Write, recode};
+use ciborium_ll::{Decoder, Encoder, End, Error, Header, Mem, RecodeError, recode};
 use std::alloc::AllocError;
 
 /// The head at the front of the bytes, whatever its width.
@@ -38,67 +36,6 @@ pub fn array_len(input: &[u8]) -> Result<Option<usize>, Error<End>>
         Ok(_) => Ok(None),
         Err(e) => Err(e),
     }
-}
-
-/// The head at the front of the bytes, taken by a call whose result holds no header.
-///
-/// # Errors
-/// Those of `first_head`.
-pub fn head_asked(input: &[u8]) -> Result<Header, Error<End>>
-    ensures ok { IfOk result (λ h. (rest : List ℕ) × Begins input.now h rest) }
-    ensures err { IfErr result (IsNoHead input.now) }
-{
-    let mut decoder = Decoder::from(input);
-    if decoder.take_head() {
-        return Ok(decoder.head());
-    }
-    decoder.pull_head()?;
-    Ok(decoder.head())
-}
-
-/// The number at the front of the bytes, or none if another item begins there.
-///
-/// # Errors
-/// Those of `first_head`.
-pub fn first_number(input: &[u8]) -> Result<Option<u64>, Error<End>>
-    ensures ok { IfOk result (λ o. IfSome o (λ n. (rest : List ℕ)
-        × Begins input.now (Positive n) rest)) }
-    ensures err { IfErr result (IsNoHead input.now) }
-{
-    let mut decoder = Decoder::from(input);
-    decoder.pull_head()?;
-    match decoder.major() {
-        0 => Ok(Some(decoder.head_number())),
-        _ => Ok(None),
-    }
-}
-
-/// The length of the byte string that begins at the front of the bytes, or none if it is open or
-/// another item begins there.
-///
-/// # Errors
-/// Those of `first_head`.
-pub fn string_len(input: &[u8]) -> Result<Option<usize>, Error<End>>
-    ensures ok { IfOk result (λ o. IfSome o (λ n. (rest : List ℕ)
-        × Begins input.now (Bytes (Some n)) rest)) }
-    ensures err { IfErr result (IsNoHead input.now) }
-{
-    let mut decoder = Decoder::from(input);
-    decoder.pull_head()?;
-    match decoder.major() {
-        2 => Ok(decoder.head_length()),
-        _ => Ok(None),
-    }
-}
-
-/// Ends a line, after what is in `out`.
-///
-/// # Errors
-/// Only if out of memory.
-pub fn end_line(out: &mut Mem<Vec<u8>>) -> Result<(), AllocError>
-    ensures { OnOk result ((memory_of out.new).items ≡ (memory_of out.old).items ++ 10 ∷ []) }
-{
-    out.write_byte(b'\n')
 }
 
 /// Writes an array of numbers in its shortest heads, after what is in `out`.

@@ -1,8 +1,6 @@
 //! Items read and written. `ciborium` is the one crate that it names.
-ghost use Rattle.std.specs.Prelude.{◌≡◌, ◌≢◌, ◌≤◌, ◌<◌, ◌^◌, ◌++◌, ◌∷◌, ℕ, List, [], length};
-ghost use Rattle.std.specs.Prelude.{IfOk, IfErr, IfSome, IfNone, OnOk, OnErr, MatchOption};
-ghost use Rattle.std.specs.Prelude.{Option, None, Some, IsTrue, false, pos, string_bytes, codes};
-ghost use Rattle.std.specs.BTreeMap.{get_by_text};
+ghost use Rattle.std.specs.Prelude.{◌≡◌, ◌≢◌, ◌≤◌, ◌++◌, ◌∷◌, ℕ, List, [], length};
+ghost use Rattle.std.specs.Prelude.{IfOk, IfErr, IfSome, IfNone, OnErr, IsTrue, false, pos};
 ghost use Rattle.ciborium.specs.Tree as tree;
 ghost use Rattle.ciborium.specs.Tree.{Tree};
 ghost use Rattle.ciborium.specs.Kinds.{is_array};
@@ -12,17 +10,16 @@ ghost use Rattle.ciborium.specs.Items.{nesting};
 ghost use Rattle.ciborium.specs.Typed.{ReadsAs};
 ghost use Rattle.ciborium.specs.Encoding.{enc};
 ghost use Rattle.ciborium.specs.declared.value.Error.TheVariants.{Memory};
-ghost use Rattle.callers.specs.Items.{NoValue, NoneOfType, FrontOnly, Fewer, first_number};
+ghost use Rattle.callers.specs.Items.{NoValue, NoneOfType, FrontOnly, Fewer};
 
 use ciborium::de::{self, Deserialize, Deserializer, Source};
 use ciborium::laws::one_spelling;
 use ciborium::ll::Decoder;
 use ciborium::ser::Serialize;
-use ciborium::tag::{Captured, Required};
+use ciborium::tag::Captured;
 use ciborium::value::{Error, Value, ValueTyped};
 use ciborium::{End, Mem, cbor, from_reader, into_writer};
 use std::alloc::{AllocError, Global};
-use std::collections::BTreeMap;
 
 /// The value that the whole input is an item of, or none if bytes follow the item.
 ///
@@ -119,25 +116,6 @@ pub fn named(alloc: Global, name: &str) -> Result<Value, Error>
     cbor!(alloc, {1u8 => name})
 }
 
-/// The number of an integer value that is 0 or more; none if the value is no such integer.
-pub fn natural(value: &Value) -> Option<u64>
-    ensures { MatchOption result ((n : ℕ) → n < 2 ^ 64 → view value.now ≢ tree.integer (pos n))
-        (λ n. view value.now ≡ tree.integer (pos n)) }
-{
-    match value.as_integer() {
-        Some(number) => u64::try_from(number).ok(),
-        None => None,
-    }
-}
-
-/// The text of a text string, or the value if it is of another kind.
-pub fn text_or_back(value: Value) -> Result<String, Value>
-    ensures ok { IfOk result (λ s. view value ≡ tree.text (string_bytes s)) }
-    ensures err { IfErr result (λ back. view back ≡ view value) }
-{
-    value.into_text()
-}
-
 /// A value made of a typed value.
 ///
 /// # Errors
@@ -147,56 +125,6 @@ pub fn value_of<T: Serialize>(alloc: Global, x: &T) -> Result<Value, Error>
     ensures err { IfErr result (λ e. e ≡ Memory) }
 {
     Value::serialized(alloc, x)
-}
-
-/// The points of a name in a map at the front of the input, which goes on after it.
-///
-/// # Errors
-/// The fault of the bytes, or `Semantic` if the item is no such map.
-pub fn points_of(
-    alloc: Global,
-    input: &mut &[u8],
-    name: &str,
-) -> Result<Option<u64>, de::Error<End>>
-    ensures ok { IfOk result (λ o. (front : List ℕ) × (points : _)
-        × (input.old.now ≡ front ++ input.new.now)
-        × ReadsAs ⟦<BTreeMap<String, u64> as Deserialize>⟧.refusal
-        ⟦<BTreeMap<String, u64> as Deserialize>⟧.takes nesting points front
-        × (o ≡ get_by_text points name.now)) }
-    ensures err { IfErr result (NoneOfType ⟦<BTreeMap<String, u64> as Deserialize>⟧.grows
-        ⟦<BTreeMap<String, u64> as Deserialize>⟧.refusal input.old.now input.new.now) }
-{
-    let points: BTreeMap<String, u64> = from_reader(alloc, input)?;
-    Ok(points.get(name).copied())
-}
-
-/// The first number that is there.
-fn first_there(times: &[Option<Required<u64, 1>>]) -> Option<u64>
-    ensures { result ≡ first_number times.now }
-{
-    for time in times {
-        if let Some(Required(seconds)) = time {
-            return Some(*seconds);
-        }
-    }
-    None
-}
-
-/// The first number of a list that is there in seconds, which tag 1 says (RFC 8949, section 3.4.2).
-///
-/// # Errors
-/// The fault of the bytes, or `Semantic` if the item is no such list.
-pub fn first_time(alloc: Global, input: &mut &[u8]) -> Result<Option<u64>, de::Error<End>>
-    ensures ok { IfOk result (λ o. (front : List ℕ) × (times : _)
-        × (input.old.now ≡ front ++ input.new.now)
-        × ReadsAs ⟦<Vec<Option<Required<u64, 1>>> as Deserialize>⟧.refusal
-        ⟦<Vec<Option<Required<u64, 1>>> as Deserialize>⟧.takes nesting times front
-        × (o ≡ first_number times.items)) }
-    ensures err { IfErr result (NoneOfType ⟦<Vec<Option<Required<u64, 1>>> as Deserialize>⟧.grows
-        ⟦<Vec<Option<Required<u64, 1>>> as Deserialize>⟧.refusal input.old.now input.new.now) }
-{
-    let times: Vec<Option<Required<u64, 1>>> = from_reader(alloc, input)?;
-    Ok(first_there(&times))
 }
 
 /// A pair of a text and a number, whatever tag is around it.

@@ -2,17 +2,18 @@
 //! `ciborium` are the crates that it names.
 ghost use Rattle.std.specs.Prelude.{◌≡◌, ◌<◌, ℕ, List, length, IfOk, IfSome, MatchBool};
 ghost use Rattle.cose_gate.specs.Findings.{usual};
-ghost use Rattle.cose_gate.specs.Run.{Step, Run};
+ghost use Rattle.cose_gate.specs.Run.{Step, Run, passed_count, refused_count};
 ghost use Rattle.callers.specs.Judging.{allows};
 ghost use Rattle.callers.specs.Roads.{FirstPasses};
 ghost use Rattle.callers.specs.Sides.{known_of};
 
-use crate::faults::count;
 use crate::judging::KeyIds;
 use crate::twice::bytes_below;
 use ciborium::laws::one_spelling;
 use cose_gate::laws::{every_input_run, one_finding};
-use cose_gate::{Counts, Decoder, End, GateFault, StreamFault, stream_check};
+use cose_gate::{
+    Counts, Decoder, End, GateFault, Nowhere, Silent, StreamFault, gate, stream_check,
+};
 use std::alloc::Global;
 
 /// Whether the message in front passes, by the streaming check. It does exactly if the first item
@@ -38,6 +39,25 @@ pub fn passes_first(
     let mut decoder = Decoder::from(input);
     match stream_check(alloc, &mut decoder, buffer, aad, judge) {
         Ok(yes) => Ok(yes),
+        Err(fault) => Err(fault),
+    }
+}
+
+/// How many messages of the input pass, and how many of its items are refused. Nothing is written.
+fn count(
+    alloc: Global,
+    input: &[u8],
+    aad: &[u8],
+    judge: &mut KeyIds,
+) -> Result<Counts, GateFault<End>>
+    ensures { (ss : List Step) (rest : List ℕ)
+        → Run usual (allows (known_of judge.old)) aad.now 0 input.now ss rest
+        → IfOk result (λ n. (n.passed ≡ passed_count (allows (known_of judge.old)) aad.now ss)
+        × (n.refused ≡ refused_count (allows (known_of judge.old)) aad.now ss)) }
+{
+    let mut decoder = Decoder::from(input);
+    match gate(alloc, &mut decoder, &mut Nowhere, &mut Silent, aad, judge) {
+        Ok(counts) => Ok(counts),
         Err(fault) => Err(fault),
     }
 }

@@ -3,9 +3,6 @@
 ghost use Rattle.std.specs.Prelude.{◌≡◌, ◌↔◌, ℕ, List, None, Some, IsTrue, IfOk, MatchResult};
 ghost use Rattle.coset.specs.Fields.{protected};
 ghost use Rattle.coset.specs.LimitsView.{nesting, layers};
-ghost use Rattle.coset.specs.MacedFields.{Mac0Fields};
-ghost use Rattle.coset.specs.MacedShapes.{HasMac0};
-ghost use Rattle.coset.specs.MacedStructure.{mac0_covered_with};
 ghost use Rattle.coset.specs.Reading.{HasItem, Tagged};
 ghost use Rattle.coset.specs.SignedFields.{Sign1Fields};
 ghost use Rattle.coset.specs.SignedShapes.{HasSign1};
@@ -15,7 +12,7 @@ ghost use Rattle.coset.specs.View.{header_view};
 ghost use Rattle.callers.specs.Signing.{IsGood, Verified};
 
 use cose_hmac::{hmac_sha256, same_tag};
-use coset::{CoseMac0, CoseSign1, CoseSign1Builder, Fault, Header, TaggedCborSerializable};
+use coset::{CoseSign1, CoseSign1Builder, Fault, Header, TaggedCborSerializable};
 use std::alloc::{AllocError, Global};
 
 /// A key of the caller: which signatures are good under it, over which bytes.
@@ -115,32 +112,6 @@ pub fn signed_payload<K: Key>(
 {
     let message = CoseSign1::from_tagged_slice(alloc, bytes)?;
     verified(alloc, &message, aad, key)?;
-    message.payload.ok_or(Fault::Caller(Refused::Detached))
-}
-
-/// The payload of a tagged COSE_Mac0, if its tag is good.
-///
-/// # Errors
-/// `Caller` if it isn't, or the payload is carried elsewhere. `Cose` if the bytes are no such
-/// message, or if out of memory.
-pub fn tagged_payload<K: Key>(
-    alloc: Global,
-    bytes: &[u8],
-    aad: &[u8],
-    key: &K,
-) -> Result<Vec<u8>, Fault<Refused>>
-    ensures { IfOk result (λ payload. (m : Mac0Fields)
-        × HasItem (Tagged 17 (λ t f. HasMac0 nesting t f layers)) bytes.now m
-        × (m.payload ≡ Some payload.items)
-        × IsGood (K.good key.now) (mac0_covered_with m payload.items aad.now) m.tag) }
-{
-    let message = CoseMac0::from_tagged_slice(alloc, bytes)?;
-    message.verify_payload_tag(
-        alloc,
-        aad,
-        || Refused::Detached,
-        move |tag, covered| key_answer(key, tag, covered),
-    )?;
     message.payload.ok_or(Fault::Caller(Refused::Detached))
 }
 

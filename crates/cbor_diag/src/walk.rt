@@ -1,5 +1,6 @@
 //! A walk over the heads of one item.
 use crate::head::{Head, HeadFault, head_of};
+use cbor_walk::body_of;
 use ciborium_ll::Header;
 use std::alloc::Global;
 use std::fmt;
@@ -117,12 +118,17 @@ pub struct Step {
 #[derive(Debug, Clone, Copy, PartialEq, Eq)]
 struct Level {
     kind: LevelKind,
-    /// How many items, of a map entries, are to come. None of an open length.
-    left: Option<usize>,
+    /// How many items it has, keys and values of a map. None of an open length.
+    len: Option<usize>,
+    /// How many have come.
+    count: usize,
+}
+
+impl Level {
     /// Whether a value is due, after its key.
-    value_due: bool,
-    /// Whether an item has come.
-    begun: bool,
+    fn value_due(self) -> bool {
+        self.kind == LevelKind::Map && self.count % 2 == 1
+    }
 }
 
 /// A walk over the heads of one item, which can stop if the bytes at hand end, and go on over more
@@ -206,38 +212,6 @@ impl Walk {
         Err(self.fault(Why::TooLong))
     }
 
-    /// Steps over a head whose body isn't at hand, and over all that ends after it. Gives the
-    /// length of the body.
-    ///
-    /// # Errors
-    /// Those of `step`, but for `Cut` and `NotText`.
-    pub fn pass(&mut self, head: Head) -> Result<usize, Fault> {
-        if head.header == Header::Break {
-            self.take_break()?;
-            self.close_full();
-            return Ok(0);
-        }
-        if !self.holds(head.header) {
-            return Err(self.fault(Why::Chunk));
-        }
-        let Some(next) = self.next_at(head) else {
-            return Err(self.fault(Why::TooLong));
-        };
-        self.go(head, next)?;
-        self.close_full();
-        Ok(body_len(head.header))
-    }
-
-    /// Ends the levels that have all their items.
-    fn close_full(&mut self) {
-        for _ in 0..u64::MAX {
-            if !self.is_full() {
-                break;
-            }
-            let _ = self.close(0);
-        }
-    }
-
     fn fault(&self, why: Why) -> Fault {
         Fault { why, at: self.at }
     }
@@ -245,7 +219,7 @@ impl Walk {
     /// Whether the innermost level has all its items.
     fn is_full(&self) -> bool {
         match self.levels.last() {
-            Some(level) => level.left == Some(0) && !level.value_due,
+            Some(level) => level.len == Some(level.count),
             None => false,
         }
     }
@@ -282,7 +256,7 @@ impl Walk {
 
     fn take_break(&mut self) -> Result<Step, Fault> {
         match self.levels.last() {
-            Some(level) if level.left.is_none() && !level.value_due => Ok(self.close(1)),
+            Some(level) if level.len.is_none() && !level.value_due() => Ok(self.close(1)),
             _ => Err(self.fault(Why::Break)),
         }
     }
@@ -320,7 +294,7 @@ impl Walk {
 
     /// Where the next head is, if an offset reaches it.
     fn next_at(&self, head: Head) -> Option<usize> {
-        let len = head.len.checked_add(body_len(head.header))?;
+        let len = head.len.checked_add(body_of(head.header))?;
         self.at.checked_add(len)
     }
 
@@ -346,55 +320,26 @@ impl Walk {
 
     /// The place of the next item, which is taken.
     fn next_place(&mut self) -> Place {
-        let Some(level) = self.levels.pop() else {
+        let Some(level) = self.levels.last_mut() else {
             return Place::Top;
         };
-        let place = place_in(level);
-        let _ = self.levels.push(used(level));
+        let place = place_in(*level);
+        level.count = level.count.saturating_add(1);
         place
-    }
-}
-
-/// How many bytes are after a head that are its own.
-fn body_len(header: Header) -> usize {
-    match header {
-        Header::Bytes(Some(size)) => size,
-        Header::Text(Some(size)) => size,
-        _ => 0,
     }
 }
 
 /// The place of the next item in a level.
 fn place_in(level: Level) -> Place {
-    let first = !level.begun;
+    let first = level.count == 0;
     match level.kind {
         LevelKind::Array => Place::Element { first },
-        LevelKind::Map if level.value_due => Place::Value,
+        LevelKind::Map if level.value_due() => Place::Value,
         LevelKind::Map => Place::Key { first },
         LevelKind::Tag => Place::Content,
         LevelKind::Bytes => Place::Chunk { first },
         LevelKind::Text => Place::Chunk { first },
     }
-}
-
-/// A level with one item more.
-fn used(level: Level) -> Level {
-    let value_due = level.kind == LevelKind::Map && !level.value_due;
-    let left = if level.value_due {
-        level.left
-    } else {
-        one_less(level.left)
-    };
-    Level {
-        kind: level.kind,
-        left,
-        value_due,
-        begun: true,
-    }
-}
-
-fn one_less(left: Option<usize>) -> Option<usize> {
-    left.map(|count| count.saturating_sub(1))
 }
 
 fn event_of(header: Header) -> Event {
@@ -410,9 +355,9 @@ fn event_of(header: Header) -> Event {
 }
 
 fn level_of(header: Header) -> Option<Level> {
-    let (kind, left) = match header {
+    let (kind, len) = match header {
         Header::Array(len) => (LevelKind::Array, len),
-        Header::Map(len) => (LevelKind::Map, len),
+        Header::Map(len) => (LevelKind::Map, len.map(|n| n.saturating_mul(2))),
         Header::Tag(_) => (LevelKind::Tag, Some(1)),
         Header::Bytes(None) => (LevelKind::Bytes, None),
         Header::Text(None) => (LevelKind::Text, None),
@@ -420,9 +365,8 @@ fn level_of(header: Header) -> Option<Level> {
     };
     Some(Level {
         kind,
-        left,
-        value_due: false,
-        begun: false,
+        len,
+        count: 0,
     })
 }
 

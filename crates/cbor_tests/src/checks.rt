@@ -15,17 +15,6 @@ pub fn same<T: PartialEq + Debug>(rt: &impl Abort, got: &T, want: &T, at: &str) 
     assert_eq!(rt; *got, *want, "at {at}");
 }
 
-/// Each value is equal to itself, and to no other one of the list.
-pub fn all_differ<T: PartialEq>(rt: &impl Abort, values: &[T], what: &str) {
-    for (index, one) in values.iter().enumerate() {
-        for (other_index, other) in values.iter().enumerate() {
-            let is_same = index == other_index;
-            holds(rt, (*one == *other) == is_same, what);
-            holds(rt, (*one != *other) != is_same, what);
-        }
-    }
-}
-
 /// The value prints like this.
 pub fn prints<T: Display>(rt: &impl Abort, alloc: Global, value: &T, want: &str) {
     let text = format!(in alloc; "{value}").expect(rt, "memory");

@@ -1,4 +1,3 @@
-//! Tests of `cbor_diag`: notation on several lines, and items of many levels.
+//! Tests of `cbor_diag`: items of many levels.
 
 mod deep;
-mod styles;

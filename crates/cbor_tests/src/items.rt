@@ -1,10 +1,9 @@
-//! Tests of `ciborium`: readers that end or fail in mid-stream, writers that are full, buffers and
-//! limits of the caller's, values in place, and arrays of many items.
+//! Tests of `ciborium`: readers that end or fail in mid-stream, writers that are full, a decoder as
+//! a source, values in place, and arrays of many items.
 
 mod arrays;
 mod building;
 mod devices;
-mod fronts;
 mod levels;
 mod round_trips;
 mod strings;

@@ -1,5 +1,5 @@
-//! Tests of `ciborium_ll`, `ciborium_value`, `ciborium_typed` (with `ciborium_traits`), `ciborium`
-//! and `cbor_diag`, by their public names: what no clause and no row of `conformance_cbor` says.
+//! Tests of `ciborium_ll`, `ciborium_typed` (with `ciborium_traits`), `ciborium` and `cbor_diag`,
+//! by their public names: what no clause and no row of `conformance_cbor` says.
 #![tactic(auto)]
 
 #[cfg(test)]
@@ -7,12 +7,8 @@ mod checks;
 #[cfg(test)]
 mod diag;
 #[cfg(test)]
-mod equal;
-#[cfg(test)]
 mod items;
 #[cfg(test)]
 mod ll;
 #[cfg(test)]
 mod typed;
-#[cfg(test)]
-mod value;

@@ -1,8 +1,5 @@
-//! Tests of `ciborium_traits` and `ciborium_typed`: values that are made by hand, sinks and
-//! sources, copies, and the laws at concrete types.
+//! Tests of `ciborium_traits` and `ciborium_typed`: copies, and the laws at concrete types.
 
 mod copies;
-mod events;
 mod laws;
 mod round_trips;
-mod values;

@@ -1,7 +1,8 @@
 //! What a value gives by its accessors.
+use crate::items::item_of;
 use crate::notation::note;
-use crate::out::{CallError, Out};
-use ciborium_value::Value;
+use ciborium_value::{Integer, Value};
+use test_tools::Out;
 
 /// The accessors that take a value apart.
 const TAKING: [&str; 5] = [
@@ -12,25 +13,32 @@ const TAKING: [&str; 5] = [
     "into_map",
 ];
 
-/// Each accessor that gives something of the item, with what it gives: of an array or a map that is
-/// seen how long it is, and of a part that is changed the value then, a text with a mark after it,
-/// a map without entries. `lost` if one gives another value back.
+/// Each accessor that gives something of the item, or of a copy of it, with what it gives: of an
+/// array or a map that is seen how long it is, and of a part that is changed the value then: a text
+/// with a mark after it, bytes, an array or a map with nothing in it, tag 98 over 5 for a tag.
+/// `lost` if one changes another value or doesn't give it back.
 pub fn accessors(to: &mut Out, item: &str) {
-    let value = to.value(item);
+    let value = item_of(to, item);
     tell_parts(to, &value);
     tell_lengths(to, &value);
     for name in TAKING {
-        tell_taken(to, name, &value, item);
+        tell_taken(to, name, &value);
     }
-    tell_changed(to, value);
+    tell_changed(to, &value);
     if to.is_empty() {
         to.text("none");
     }
 }
 
+/// A copy of the value.
+fn copied(to: &mut Out, value: &Value) -> Value {
+    let copy = value.clone(to.alloc());
+    to.kept(copy).unwrap_or(Value::Null)
+}
+
 /// The name of one of them, in front of what it gives.
 fn name(to: &mut Out, name: &str) {
-    to.divide(", ");
+    to.apart(", ");
     to.text(name);
     to.text(" ");
 }
@@ -63,20 +71,22 @@ fn tell_lengths(to: &mut Out, value: &Value) {
     }
 }
 
-/// What this accessor takes out of the item, or that it gives another value back.
-fn tell_taken(to: &mut Out, accessor: &str, value: &Value, item: &str) {
-    let taken = to.value(item);
-    match taken_by(accessor, taken) {
+/// What this accessor takes out of a copy, or that it gives another value back.
+fn tell_taken(to: &mut Out, accessor: &str, value: &Value) {
+    let copy = copied(to, value);
+    match taken_by(accessor, copy) {
         Ok(content) => {
             name(to, accessor);
             note(to, &content);
         }
-        Err(back) => {
-            if back != *value {
-                name(to, accessor);
-                to.text("lost");
-            }
-        }
+        Err(back) => tell_lost(to, accessor, back == *value),
+    }
+}
+
+fn tell_lost(to: &mut Out, accessor: &str, is_back: bool) {
+    if !is_back {
+        name(to, accessor);
+        to.text("lost");
     }
 }
 
@@ -91,26 +101,41 @@ fn taken_by(accessor: &str, value: Value) -> Result<Value, Value> {
     }
 }
 
-/// The value with its text or its map changed.
-fn tell_changed(to: &mut Out, value: Value) {
-    let mut value = value;
-    if let Some(accessor) = changed(to, &mut value) {
-        name(to, accessor);
-        note(to, &value);
+/// The copy with a part of it changed.
+fn tell_changed(to: &mut Out, value: &Value) {
+    let mut copy = copied(to, value);
+    match changed(to, &mut copy) {
+        Some(accessor) => {
+            name(to, accessor);
+            note(to, &copy);
+        }
+        None => tell_lost(to, "mut", copy == *value),
     }
 }
 
-/// Changes a text or a map, and names the accessor by which it did.
+/// Changes a part of a value, and names the accessor by which it did.
 fn changed(to: &mut Out, value: &mut Value) -> Option<&'static str> {
     if let Some(content) = value.as_text_mut() {
-        if content.push_str("!").is_err() {
-            to.refuse(CallError::Memory);
-        }
+        let done = content.push_str("!");
+        to.note(done);
         return Some("as_text_mut");
+    }
+    if let Some(content) = value.as_bytes_mut() {
+        content.clear();
+        return Some("as_bytes_mut");
+    }
+    if let Some(items) = value.as_array_mut() {
+        items.clear();
+        return Some("as_array_mut");
     }
     if let Some(entries) = value.as_map_mut() {
         entries.clear();
         return Some("as_map_mut");
+    }
+    if let Some((number, content)) = value.as_tag_mut() {
+        *number = 98;
+        *content = Value::Integer(Integer::from(5u64));
+        return Some("as_tag_mut");
     }
     None
 }

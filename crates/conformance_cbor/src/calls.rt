@@ -1,34 +1,24 @@
 //! Calls by name.
-use crate::out::{CallError, Out};
 use crate::typed::{self, Route};
 use crate::{accessors, heads, items, labels, notation, orders, pieces, registries, shown, values};
 use cbor_diag::Style;
+use test_tools::{NoAnswer, Out};
 
-/// The argument in front. What is after it is left.
-fn word<'a>(row: &mut &'a str) -> &'a str {
-    match row.split_once(' ') {
-        Some((word, rest)) => {
-            *row = rest;
-            word
-        }
-        None => {
-            let word = *row;
-            *row = "";
-            word
-        }
-    }
-}
-
-/// What the call returns that the first argument names.
+/// What the call returns that the first word of a row names.
 pub fn answer(to: &mut Out, row: &str) {
-    let mut row = row;
-    let call = word(&mut row);
-    let a = word(&mut row);
-    match call {
-        "rising" => orders::rising(to, a, row),
-        "distinct" => orders::distinct(to, a, row),
-        _ if row.is_empty() => of_one(to, call, a),
-        _ => of_two(to, call, a, row),
+    let words = to.words(row);
+    match words.as_slice() {
+        [call @ ("rising" | "distinct"), order, items @ ..] => {
+            orders::in_place(to, call, order, items)
+        }
+        [call, a] => of_one(to, call, a),
+        [call, a, b] => of_two(to, call, a, b),
+        [call @ ("within" | "by-buffer"), number, name, item] => {
+            let number = to.number(number);
+            let bytes = to.bytes(item);
+            of_route(to, call, number, name, &bytes);
+        }
+        _ => to.refuse(NoAnswer::NoCall),
     }
 }
 
@@ -57,9 +47,10 @@ fn of_bytes(to: &mut Out, call: &str, bytes: &[u8]) {
         "bignum" => values::bignum(to, bytes),
         "diag" => shown::noted(to, bytes, Style::appendix()),
         "diag-widths" => shown::noted(to, bytes, Style::line()),
+        "diag-full" => shown::noted_in_full(to, bytes),
         "members" => shown::members(to, bytes),
         "excess" => shown::excess(to, bytes),
-        _ => to.refuse(CallError::NoCall),
+        _ => to.refuse(NoAnswer::NoCall),
     }
 }
 
@@ -98,6 +89,14 @@ fn of_name(to: &mut Out, call: &str, name: &str, bytes: &[u8]) {
     }
 }
 
+/// A call that reads bytes as a type, with a number.
+fn of_route(to: &mut Out, call: &str, number: usize, name: &str, bytes: &[u8]) {
+    match call {
+        "within" => typed::typed(to, Route::Within(number), name, bytes),
+        _ => typed::typed(to, Route::Buffer(number), name, bytes),
+    }
+}
+
 /// A call with a number and bytes.
 fn of_size(to: &mut Out, call: &str, number: usize, bytes: &[u8]) {
     match call {
@@ -107,6 +106,6 @@ fn of_size(to: &mut Out, call: &str, number: usize, bytes: &[u8]) {
         "text-pieces" => pieces::of_text(to, bytes, number),
         "recode" => heads::recoded(to, bytes, number),
         "ends" => shown::ends(to, bytes, number),
-        _ => to.refuse(CallError::NoCall),
+        _ => to.refuse(NoAnswer::NoCall),
     }
 }

@@ -1,6 +1,6 @@
 //! Heads, strings that are written, and copies to shortest titles.
-use crate::out::{CallError, Out};
 use ciborium_ll::{Bytes, Decoder, Encoder, Full, Header, Mem, StringKind, Text, Write, recode};
+use test_tools::{NoAnswer, Out};
 
 /// Each header with the offset after it, and at last the fault with the offset there.
 pub fn pulled(to: &mut Out, bytes: &[u8]) {
@@ -11,7 +11,7 @@ pub fn pulled(to: &mut Out, bytes: &[u8]) {
         }
     }
     if tell_header(to, &mut decoder) {
-        to.refuse(CallError::NotItem);
+        to.refuse(NoAnswer::NotItem);
     }
 }
 
@@ -56,7 +56,7 @@ pub fn pushed(to: &mut Out, bytes: &[u8]) {
 fn title(to: &mut Out, header: Header) {
     let mut encoder = Encoder::from(Mem::new(Vec::new(to.alloc())));
     if encoder.push(header).is_err() {
-        to.refuse(CallError::Memory);
+        to.refuse(NoAnswer::Memory);
     }
     let mut room = [0u8; 9];
     let mut out = Mem::new(&mut room[..]);
@@ -83,7 +83,7 @@ pub fn string_head(to: &mut Out, kind: &str, bytes: &[u8]) {
     match (decoder.pull(), kind) {
         (Ok(header), "bytes") => head_of::<Bytes>(to, header),
         (Ok(header), "text") => head_of::<Text>(to, header),
-        (Ok(_), _) => to.refuse(CallError::NoCall),
+        (Ok(_), _) => to.refuse(NoAnswer::NoCall),
         (Err(error), _) => to.failure(&error),
     }
 }
@@ -112,7 +112,7 @@ pub fn byte_string(to: &mut Out, most: &str, bytes: &[u8]) {
     let limit = limit(to, most);
     let mut out = Mem::new(Vec::new(to.alloc()));
     if Encoder::from(&mut out).bytes(bytes, limit).is_err() {
-        to.refuse(CallError::Memory);
+        to.refuse(NoAnswer::Memory);
     }
     to.hex(out.as_written());
 }
@@ -121,7 +121,7 @@ pub fn byte_string(to: &mut Out, most: &str, bytes: &[u8]) {
 pub fn text_string(to: &mut Out, most: &str, bytes: &[u8]) {
     match std::str::from_utf8(bytes) {
         Ok(text) => written_text(to, most, text),
-        Err(_) => to.refuse(CallError::NotItem),
+        Err(_) => to.refuse(NoAnswer::NotItem),
     }
 }
 
@@ -129,7 +129,7 @@ fn written_text(to: &mut Out, most: &str, text: &str) {
     let limit = limit(to, most);
     let mut out = Mem::new(Vec::new(to.alloc()));
     if Encoder::from(&mut out).text(text, limit).is_err() {
-        to.refuse(CallError::Memory);
+        to.refuse(NoAnswer::Memory);
     }
     to.hex(out.as_written());
 }

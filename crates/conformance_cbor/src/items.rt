@@ -1,8 +1,28 @@
 //! Items that are read and written.
-use crate::out::{LIMIT, Out};
 use ciborium::de::{from_decoder, from_decoder_strict};
 use ciborium::{Decoder, Value};
-use coset_labels::write_to_vec;
+use coset_labels::{read_to_value, write_to_vec};
+use test_tools::{NoAnswer, Out};
+
+/// The nesting limit if a call names none.
+const LIMIT: usize = 256;
+
+/// The item that all of these bytes are.
+pub fn whole(to: &mut Out, bytes: &[u8]) -> Value {
+    match read_to_value(to.alloc(), bytes, LIMIT) {
+        Ok(value) => value,
+        Err(_) => {
+            to.refuse(NoAnswer::NotItem);
+            Value::Null
+        }
+    }
+}
+
+/// The item whose bytes in hex are these.
+pub fn item_of(to: &mut Out, word: &str) -> Value {
+    let bytes = to.bytes(word);
+    whole(to, &bytes)
+}
 
 /// The canonical encoding of the front item and how many bytes it took, or the fault.
 pub fn item(to: &mut Out, bytes: &[u8], limit: usize) {

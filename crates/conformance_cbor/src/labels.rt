@@ -1,12 +1,13 @@
 //! Labels, and values that are taken by kind.
+use crate::items::item_of;
 use crate::notation::note;
-use crate::out::{CallError, Out};
 use ciborium::Value;
 use coset_labels::{
     Algorithm, AsCborValue, CborSerializable, ContentType, CoseError, KeyType, Label,
     RegisteredLabel, ValueTryAs, iana, to_cbor_array,
 };
 use std::fmt::Debug;
+use test_tools::{NoAnswer, Out};
 
 /// The label that these bytes are, as Rust shows it, and as it is written.
 pub fn label(to: &mut Out, kind: &str, bytes: &[u8]) {
@@ -16,7 +17,7 @@ pub fn label(to: &mut Out, kind: &str, bytes: &[u8]) {
         "content-type" => read::<ContentType>(to, bytes),
         "key-type" => read::<KeyType>(to, bytes),
         "curve" => read::<RegisteredLabel<iana::EllipticCurve>>(to, bytes),
-        _ => to.refuse(CallError::NoCall),
+        _ => to.refuse(NoAnswer::NoCall),
     }
 }
 
@@ -39,7 +40,7 @@ pub fn item(to: &mut Out, kind: &str, bytes: &[u8]) {
         "algorithm" => through_value::<Algorithm>(to, bytes),
         "content-type" => through_value::<ContentType>(to, bytes),
         "key-type" => through_value::<KeyType>(to, bytes),
-        _ => to.refuse(CallError::NoCall),
+        _ => to.refuse(NoAnswer::NoCall),
     }
 }
 
@@ -62,7 +63,7 @@ fn told(to: &mut Out, value: Result<Value, CoseError>) {
 
 /// What an item is as one of this kind, in diagnostic notation.
 pub fn taken(to: &mut Out, kind: &str, item: &str) {
-    let value = to.value(item);
+    let value = item_of(to, item);
     match kind {
         "integer" => told(to, value.try_as_integer().map(Value::Integer)),
         "bytes" => told(to, value.try_as_bytes().map(Value::Bytes)),
@@ -73,7 +74,7 @@ pub fn taken(to: &mut Out, kind: &str, item: &str) {
         "tag" => told(to, value.try_as_tag().map(tagged)),
         "text" => told(to, value.try_as_string().map(Value::Text)),
         "labels" => labels(to, value),
-        _ => to.refuse(CallError::NoCall),
+        _ => to.refuse(NoAnswer::NoCall),
     }
 }
 

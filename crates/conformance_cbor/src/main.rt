@@ -10,22 +10,15 @@ mod items;
 mod labels;
 mod notation;
 mod orders;
-mod out;
 mod pieces;
 mod registries;
-mod rows;
 mod shown;
 mod typed;
 mod values;
 
 use std::io;
+use test_tools::rows;
 
 fn main(rt: HostRuntime) -> io::Result<()> {
-    let text = io::read_to_string(rt.alloc(), rt.stdin())?;
-    let report = rows::report(rt.alloc(), text.as_str());
-    if report.fault().is_some() {
-        return Err(io::Error::from(io::ErrorKind::OutOfMemory));
-    }
-    let report = report.as_str();
-    print!(rt; "{report}")
+    rows::run(&rt, calls::answer)
 }

@@ -1,7 +1,7 @@
 //! Diagnostic notation (RFC 8949, section 8).
-use crate::out::Out;
 use ciborium::{Float, Value};
 use coset_labels::read_to_value;
+use test_tools::Out;
 
 /// The item that all of these bytes are in diagnostic notation, or the text of the error.
 pub fn diagnostic(to: &mut Out, bytes: &[u8], limit: usize) {
@@ -62,7 +62,7 @@ fn note_leaf(to: &mut Out, value: &Value) {
 }
 
 /// Bytes in hex between this and a mark.
-fn note_digits(to: &mut Out, front: &str, bytes: &[u8]) {
+pub fn note_digits(to: &mut Out, front: &str, bytes: &[u8]) {
     to.text(front);
     to.digits(bytes);
     to.text("'");

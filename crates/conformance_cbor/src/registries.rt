@@ -1,5 +1,4 @@
 //! Entries of registries.
-use crate::out::{CallError, Out};
 use cose_iana::{
     ALGORITHM_PRIVATE_USE_MAX, AkpKeyParameter, Algorithm, CWT_CLAIM_PRIVATE_USE_MAX, CborTag,
     CoapContentFormat, CwtClaimName, ELLIPTIC_CURVE_PRIVATE_USE_MAX, Ec2KeyParameter,
@@ -8,6 +7,7 @@ use cose_iana::{
     RsaKeyParameter, SymmetricKeyParameter, WalnutDsaKeyParameter, WithPrivateRange,
 };
 use std::fmt::Debug;
+use test_tools::{NoAnswer, Out};
 
 /// The name of the registry's entry with the number that an argument is, and the number again.
 pub fn named(to: &mut Out, registry: &str, word: &str) {
@@ -36,7 +36,7 @@ pub fn entry(to: &mut Out, registry: &str, number: Option<i64>) {
         "tag" => told::<CborTag>(to, number),
         "content-format" => told::<CoapContentFormat>(to, number),
         "claim" => told::<CwtClaimName>(to, number),
-        _ => to.refuse(CallError::NoCall),
+        _ => to.refuse(NoAnswer::NoCall),
     }
 }
 
@@ -90,7 +90,7 @@ pub fn cast(to: &mut Out, registry: &str) {
         "tag" => tell_cast!(to, CborTag::CoseSign),
         "content-format" => tell_cast!(to, CoapContentFormat::Cbor),
         "claim" => tell_cast!(to, CwtClaimName::PsaClientId),
-        _ => to.refuse(CallError::NoCall),
+        _ => to.refuse(NoAnswer::NoCall),
     }
 }
 
@@ -116,7 +116,7 @@ pub fn private(to: &mut Out, registry: &str, word: &str) {
             ELLIPTIC_CURVE_PRIVATE_USE_MAX,
         ),
         "claim" => tell_private(to, CwtClaimName::is_private(n), CWT_CLAIM_PRIVATE_USE_MAX),
-        _ => to.refuse(CallError::NoCall),
+        _ => to.refuse(NoAnswer::NoCall),
     }
 }
 
@@ -130,7 +130,7 @@ fn tell_private(to: &mut Out, is_private: bool, bound: i64) {
 pub fn found<T: EnumI64>(to: &mut Out, word: &str) -> Option<T> {
     let entry = T::from_i64(to.number(word));
     if entry.is_none() {
-        to.refuse(CallError::NotItem);
+        to.refuse(NoAnswer::NotItem);
     }
     entry
 }

@@ -1,8 +1,8 @@
 //! What is shown of an item: its notation from its heads, the members of a message, what isn't in
 //! canonical encoding in it, and where items end.
-use crate::out::{CallError, Out};
 use cbor_diag::{Ends, Fault, NotWritten, Page, Style, first_excess, write_item};
-use cose_notation::{Look, mask, write_message};
+use cose_notation::{Json, Look, mask, show_message};
+use test_tools::{NoAnswer, Out};
 
 /// The notation of an item from its heads. Of damaged bytes what is in front of the fault, and the
 /// fault.
@@ -12,15 +12,23 @@ pub fn noted(to: &mut Out, bytes: &[u8], style: Style) {
     match write_item(alloc, bytes, style, 0, &mut page) {
         Ok(len) => {
             if len != bytes.len() {
-                to.refuse(CallError::NotItem);
+                to.refuse(NoAnswer::NotItem);
             }
         }
         Err(NotWritten::Fault(fault)) => {
             to.text("... ");
             note_fault(to, fault);
         }
-        Err(_) => to.refuse(CallError::Memory),
+        Err(_) => to.refuse(NoAnswer::Memory),
     }
+}
+
+/// The same in full, with `|` for each line feed.
+pub fn noted_in_full(to: &mut Out, bytes: &[u8]) {
+    let mut notation = Out::new(to.alloc());
+    noted(&mut notation, bytes, Style::full());
+    to.lines(notation.as_str());
+    to.refuse_as(&notation);
 }
 
 fn note_fault(to: &mut Out, fault: Fault) {
@@ -38,12 +46,10 @@ pub fn members(to: &mut Out, bytes: &[u8]) {
     };
     let alloc = to.alloc();
     let Ok(masked) = mask(alloc, look, bytes) else {
-        return to.refuse(CallError::Memory);
+        return to.refuse(NoAnswer::Memory);
     };
-    let mut page = Page::new(to);
-    write_message(alloc, look, masked.view(), &mut page);
-    if page.has_failed() {
-        to.refuse(CallError::Memory);
+    if show_message(alloc, masked.view(), &mut Json::new(alloc, to)).is_err() {
+        to.refuse(NoAnswer::Memory);
     }
     if to.is_empty() {
         to.text("-");

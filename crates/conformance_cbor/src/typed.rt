@@ -1,14 +1,15 @@
 //! Items read as types of Rust, and written.
-use crate::out::{CallError, Out};
-use ciborium::de::{Deserialize, Error};
+use crate::items;
+use ciborium::de::{Deserialize, Error, from_reader_with_recursion_limit};
 use ciborium::ser::Serialize;
 use ciborium::tag::{Accepted, Captured, Required};
-use ciborium::value::{self, ValueTyped};
-use ciborium::{End, Mem, Value, from_reader, into_writer};
+use ciborium::value::{self, CanonicalValue, ValueTyped};
+use ciborium::{End, Mem, Value, from_reader, from_reader_with_buffer, into_writer};
 use ciborium_typed::ByteBuf;
 use coset_labels::write_to_vec;
 use std::collections::BTreeMap;
 use std::fmt::Debug;
+use test_tools::{NoAnswer, Out};
 
 /// How an item is read as a type.
 #[derive(Clone, Copy)]
@@ -17,6 +18,10 @@ pub enum Route {
     Reader,
     /// The same, of which only what is left of the bytes is told.
     Rest,
+    /// From the front of bytes that may have so many levels.
+    Within(usize),
+    /// From the front of bytes, by a buffer of so many bytes, 8 at most.
+    Buffer(usize),
     /// From a value, by `Deserialize::take`.
     Take,
     /// From a value, by `Value::deserialized`.
@@ -44,6 +49,7 @@ pub fn typed(to: &mut Out, route: Route, name: &str, bytes: &[u8]) {
         "String" => read::<String>(to, route, bytes),
         "ByteBuf" => read::<ByteBuf>(to, route, bytes),
         "Value" => read::<Value>(to, route, bytes),
+        "CanonicalValue" => read::<CanonicalValue>(to, route, bytes),
         _ => composite(to, route, name, bytes),
     }
 }
@@ -65,7 +71,7 @@ fn composite(to: &mut Out, route: Route, name: &str, bytes: &[u8]) {
         "Required<bool,5>" => read::<Required<bool, 5>>(to, route, bytes),
         "Accepted<bool,5>" => read::<Accepted<bool, 5>>(to, route, bytes),
         "Accepted<u8,5>" => read::<Accepted<u8, 5>>(to, route, bytes),
-        _ => to.refuse(CallError::NoCall),
+        _ => to.refuse(NoAnswer::NoCall),
     }
 }
 
@@ -73,12 +79,14 @@ fn read<T: Deserialize + Serialize + Debug>(to: &mut Out, route: Route, bytes: &
     match route {
         Route::Reader => by_reader::<T>(to, bytes),
         Route::Rest => rest::<T>(to, bytes),
+        Route::Within(limit) => within::<T>(to, limit, bytes),
+        Route::Buffer(size) => by_buffer::<T>(to, size, bytes),
         Route::Take => {
-            let value = to.item(bytes);
+            let value = items::whole(to, bytes);
             serialized(to, T::take(to.alloc(), value));
         }
         Route::Deserialized => {
-            let value = to.item(bytes);
+            let value = items::whole(to, bytes);
             serialized(to, value.deserialized::<T>(to.alloc()));
         }
     }
@@ -87,16 +95,37 @@ fn read<T: Deserialize + Serialize + Debug>(to: &mut Out, route: Route, bytes: &
 fn by_reader<T: Deserialize + Serialize + Debug>(to: &mut Out, bytes: &[u8]) {
     let mut rest = bytes;
     let read: Result<T, Error<End>> = from_reader(to.alloc(), &mut rest);
-    match read {
-        Ok(value) => written(to, &value),
-        Err(error) => to.failure(&error),
+    told(to, read);
+}
+
+fn within<T: Deserialize + Serialize + Debug>(to: &mut Out, limit: usize, bytes: &[u8]) {
+    let mut rest = bytes;
+    let read: Result<T, Error<End>> = from_reader_with_recursion_limit(
+        to.alloc(),
+        &mut rest,
+        limit,
+    );
+    told(to, read);
+}
+
+fn by_buffer<T: Deserialize + Serialize + Debug>(to: &mut Out, size: usize, bytes: &[u8]) {
+    let mut rest = bytes;
+    let mut buffer = [7; 8];
+    let buffer = &mut buffer[..size.min(8)];
+    let read: Result<T, Error<End>> = from_reader_with_buffer(to.alloc(), &mut rest, buffer);
+    told(to, read);
+}
+
+fn told<T: Serialize + Debug + Drop>(to: &mut Out, read: Result<T, Error<End>>) {
+    if let Some(value) = to.value(read) {
+        written(to, &value);
     }
 }
 
 fn written<T: Serialize + Debug>(to: &mut Out, value: &T) {
     let mut out = Mem::new(Vec::new(to.alloc()));
     if into_writer(value, &mut out).is_err() {
-        to.refuse(CallError::Memory);
+        to.refuse(NoAnswer::Memory);
     }
     to.debug(value);
     to.text(" written ");
@@ -123,6 +152,6 @@ fn written_as_value<T: Serialize + Debug>(to: &mut Out, value: &T) {
             to.text(" written ");
             to.made(write_to_vec(to.alloc(), &item));
         }
-        Err(_) => to.refuse(CallError::Memory),
+        Err(_) => to.refuse(NoAnswer::Memory),
     }
 }

@@ -1,13 +1,14 @@
 //! Integers, and values: their kinds, what they are made of, and bignums.
+use crate::items::item_of;
 use crate::notation::note;
-use crate::out::{CallError, Out};
 use ciborium_value::{Integer, Value, bignum, fold_tag};
 use std::alloc::AllocError;
 use std::num::TryFromIntError;
+use test_tools::{NoAnswer, Out};
 
 /// The kinds that a value says it is of.
 pub fn kinds(to: &mut Out, item: &str) {
-    let value = to.value(item);
+    let value = item_of(to, item);
     tell_kind(to, value.is_integer(), "integer");
     tell_kind(to, value.is_bytes(), "bytes");
     tell_kind(to, value.is_float(), "float");
@@ -21,7 +22,7 @@ pub fn kinds(to: &mut Out, item: &str) {
 
 fn tell_kind(to: &mut Out, is_so: bool, name: &str) {
     if is_so {
-        to.divide(" ");
+        to.apart(" ");
         to.text(name);
     }
 }
@@ -44,32 +45,32 @@ pub fn made_from(to: &mut Out, kind: &str, word: &str) {
             let bytes = to.bytes(word);
             tell_made(to, Value::from_byte_slice(alloc, &bytes));
         }
-        _ => to.refuse(CallError::NoCall),
+        _ => to.refuse(NoAnswer::NoCall),
     }
 }
 
 fn of_character(to: &mut Out, word: &str) {
     match word.chars().next() {
         Some(character) => tell_made(to, Value::from_char(to.alloc(), character)),
-        None => to.refuse(CallError::NoCall),
+        None => to.refuse(NoAnswer::NoCall),
     }
 }
 
 fn tell_made(to: &mut Out, value: Result<Value, AllocError>) {
     match value {
         Ok(value) => note(to, &value),
-        Err(_) => to.refuse(CallError::Memory),
+        Err(_) => to.refuse(NoAnswer::Memory),
     }
 }
 
 /// What a tag over this value becomes, in diagnostic notation.
 pub fn folded(to: &mut Out, tag: &str, item: &str) {
     let tag = to.number(tag);
-    let content = to.value(item);
+    let content = item_of(to, item);
     match fold_tag(to.alloc(), tag, content) {
         Ok(Some(value)) => note(to, &value),
         Ok(None) => to.text("none"),
-        Err(_) => to.refuse(CallError::Memory),
+        Err(_) => to.refuse(NoAnswer::Memory),
     }
 }
 
@@ -94,7 +95,7 @@ pub fn integer(to: &mut Out, kind: &str, word: &str) {
             let integer = Integer::try_from(to.number::<u128>(word));
             tell_integer(to, integer);
         }
-        _ => to.refuse(CallError::NoCall),
+        _ => to.refuse(NoAnswer::NoCall),
     }
 }
 

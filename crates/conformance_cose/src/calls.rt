@@ -1,64 +1,20 @@
 //! Calls by name.
-use crate::out::{NoAnswer, Out};
 use crate::{
     errors, exact, items, keys, limits, messages, parts, protected, received, rules, structures,
     tags, widest,
 };
+use test_tools::{NoAnswer, Out};
 
-/// The next argument of a row, which has the others then.
-fn word<'a>(row: &mut &'a str) -> &'a str {
-    match row.split_once(' ') {
-        Some((word, rest)) => {
-            *row = rest;
-            word
-        }
-        None => {
-            let word = *row;
-            *row = "";
-            word
-        }
-    }
-}
-
-/// What the call returns that the first argument names.
+/// What the call returns that the first word of a row names.
 pub fn answer(to: &mut Out, row: &str) {
-    let mut row = row;
-    let call = word(&mut row);
-    if row.is_empty() {
-        none(to, call);
-        return;
-    }
-    let first = word(&mut row);
-    if row.is_empty() {
-        one(to, call, first);
-        return;
-    }
-    let second = word(&mut row);
-    if row.is_empty() {
-        two(to, call, first, second);
-    } else {
-        more(to, call, [first, second], row);
-    }
-}
-
-fn more(to: &mut Out, call: &str, [first, second]: [&str; 2], row: &str) {
-    let mut row = row;
-    let third = word(&mut row);
-    if row.is_empty() {
-        three(to, call, first, second, third);
-        return;
-    }
-    let fourth = word(&mut row);
-    if row.is_empty() {
-        four(to, call, [first, second, third, fourth]);
-    } else {
-        five(to, call, first, [second, third, fourth, row]);
-    }
-}
-
-fn none(to: &mut Out, call: &str) {
-    match call {
-        "okp-key" => keys::octet_pair(to),
+    let words = to.words(row);
+    match words.as_slice() {
+        ["okp-key"] => keys::octet_pair(to),
+        [call, a] => one(to, call, a),
+        [call, a, b] => two(to, call, a, b),
+        [call, a, b, c] => three(to, call, a, b, c),
+        [call, a, b, c, d] => four(to, call, [a, b, c, d]),
+        [call, a, b, c, d, e] => five(to, call, a, [b, c, d, e]),
         _ => to.refuse(NoAnswer::NoCall),
     }
 }
@@ -117,16 +73,10 @@ fn of_two_items(to: &mut Out, call: &str, first: &str, second: &str) {
         "is-received-header" => received::is_header(to, first, second),
         "is-received-signature" => received::is_signature(to, first, second),
         "sign1-tbs" => messages::sign1_covered(to, first, second),
-        "sign1-verifier" => messages::sign1_handed(to, first, second),
-        "sign-verifier" => messages::sign_handed(to, first, second),
-        "mac0-verifier" => messages::mac0_handed(to, first, second),
-        "mac-verifier" => messages::mac_handed(to, first, second),
-        "encrypt0-cipher" => messages::encrypt0_handed(to, first, second),
-        "encrypt-cipher" => messages::encrypt_handed(to, first, second),
         "hmac" => tags::whole(to, first, second),
         "hmac-of-clone" => tags::of_clone(to, first, second),
         "same-tag" => tags::are_same(to, first, second),
-        _ => items::same(to, call, first, second),
+        _ => messages::of_call(to, call, first, second),
     }
 }
 

@@ -1,8 +1,8 @@
 //! The texts of errors.
-use crate::out::{NoAnswer, Out};
 use coset::cbor::de;
 use coset::cbor::values::Kind;
 use coset::{CoseError, EndOfFile, Fault, ParseSec1OctetStringError, ToSec1OctetStringError};
+use test_tools::{NoAnswer, Out};
 
 /// Errors by name.
 const ERRORS: &[(&str, CoseError)] = &[

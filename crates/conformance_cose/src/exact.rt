@@ -1,9 +1,9 @@
 //! Whether items are as they would be written.
-use crate::out::{NoAnswer, Out};
 use coset::{
     AsWritten, CoseMac, CoseMac0, CoseRecipient, CoseSign, CoseSign1, CoseSignature, Header,
     read_to_value,
 };
+use test_tools::{NoAnswer, Out};
 
 /// Whether the value of an item is already the one that would be written of what it is read as.
 pub fn is_as_written(to: &mut Out, kind: &str, item: &str) {

@@ -1,5 +1,4 @@
 //! Items that are read and written back.
-use crate::out::{NoAnswer, Out};
 use crate::protected;
 use coset::cbor::Value;
 use coset::cwt::ClaimsSet;
@@ -11,6 +10,7 @@ use coset::{
 use coset_labels::tuples::three;
 use coset_recipients::{PartValues, Parts};
 use std::alloc::{AllocError, Global};
+use test_tools::{NoAnswer, Out};
 
 /// What an item is read as, or none after the text of its error.
 pub fn read<T: CborSerializable>(to: &mut Out, item: &str) -> Option<T> {
@@ -56,7 +56,7 @@ fn message_back(to: &mut Out, kind: &str, item: &str) {
     }
 }
 
-/// What is written of a copy.
+/// What is written of a copy of what an item is read as.
 fn back<T, C>(to: &mut Out, item: &str, copy: C)
 where
     T: CborSerializable + PartialEq,
@@ -65,39 +65,10 @@ where
 {
     let item = to.bytes(item);
     let read = T::from_slice(to.alloc(), &item);
-    copied(to, read, copy);
+    copied(to, read, copy, written);
 }
 
-/// What is written of a copy of what was read, and what is written of the value itself, if that is
-/// something else.
-pub fn copied<T, C>(to: &mut Out, read: Result<T, CoseError>, copy: C)
-where
-    T: CborSerializable + PartialEq,
-    C: FnOnce(&T, Global) -> Result<T, AllocError>,
-    requires { C.IsAlwaysCallable copy }
-{
-    if let Some(read) = to.value(read) {
-        let copied = copy(&read, to.alloc());
-        if let Some(copied) = to.kept(copied) {
-            if copied == read {
-                let copied = writing(to.alloc(), copied);
-                let read = writing(to.alloc(), read);
-                to.both(&copied, &read);
-            } else {
-                to.text("another copy");
-            }
-        }
-    }
-}
-
-/// What is written of a value.
-fn writing<T: CborSerializable>(alloc: Global, value: T) -> Out {
-    let mut out = Out::new(alloc);
-    out.made(value.to_vec(alloc));
-    out
-}
-
-/// What is written of a copy, with its tag.
+/// As `back`, with its tag.
 fn tagged_back<T, C>(to: &mut Out, item: &str, copy: C)
 where
     T: TaggedCborSerializable + PartialEq,
@@ -106,15 +77,41 @@ where
 {
     let item = to.bytes(item);
     let read = T::from_tagged_slice(to.alloc(), &item);
-    if let Some(read) = to.value(read) {
-        let copied = copy(&read, to.alloc());
-        if let Some(copied) = to.kept(copied) {
-            if copied == read {
-                to.made(copied.to_tagged_vec(to.alloc()));
-            } else {
-                to.text("another copy");
-            }
-        }
+    copied(
+        to,
+        read,
+        copy,
+        |to, value| to.made(value.to_tagged_vec(to.alloc())),
+    );
+}
+
+/// What is written of a copy of what was read, and what is written of the value itself, if that is
+/// something else. Nothing is in front of it.
+pub fn copied<T, C, W>(to: &mut Out, read: Result<T, CoseError>, copy: C, write: W)
+where
+    T: PartialEq + Drop,
+    C: FnOnce(&T, Global) -> Result<T, AllocError>,
+    W: Fn(&mut Out, T),
+    requires copies { C.IsAlwaysCallable copy }
+    requires writes { W.IsAlwaysCallable write }
+{
+    let Some(value) = to.value(read) else {
+        return;
+    };
+    let made = copy(&value, to.alloc());
+    let Some(made) = to.kept(made) else {
+        return;
+    };
+    if made != value {
+        to.text("another copy");
+        return;
+    }
+    let mut of_value = Out::new(to.alloc());
+    write(&mut of_value, value);
+    write(to, made);
+    if to.as_str() != of_value.as_str() {
+        to.text(" of the copy, of the value ");
+        to.append(&of_value);
     }
 }
 
@@ -123,10 +120,7 @@ pub fn new(to: &mut Out, kind: &str) {
     let alloc = to.alloc();
     match kind {
         "header" => written(to, Header::new(alloc)),
-        "protected-header" => {
-            let encoded = protected::encoded(alloc, ProtectedHeader::new(alloc));
-            to.append(&encoded);
-        }
+        "protected-header" => protected::written(to, ProtectedHeader::new(alloc)),
         "signature" => written(to, CoseSignature::new(alloc)),
         "recipient" => written(to, CoseRecipient::new(alloc)),
         "key-set" => written(to, CoseKeySet::new(alloc)),
@@ -152,50 +146,33 @@ fn new_message(to: &mut Out, kind: &str) {
     }
 }
 
-fn written<T: CborSerializable>(to: &mut Out, new: T) {
-    to.made(new.to_vec(to.alloc()));
+/// The item that is written of a value.
+pub fn written<T: CborSerializable>(to: &mut Out, value: T) {
+    to.made(value.to_vec(to.alloc()));
 }
 
-/// The item that is written of a message of some kind after another item is read into it; after a
-/// fault its text, and then that item.
+/// What is written of a message of this kind after a value is read into it; after a fault its text,
+/// and then that item.
+macro_rules! refill {
+    ($to:ident, $message:ident, $value:ident, $kind:ident) => {
+        if let Some(mut message) = read::<$kind>($to, $message) {
+            let filled = message.fill($to.alloc(), $value, Limits::default());
+            show_filled($to, filled, message);
+        }
+    };
+}
+
+/// What is written of a message of some kind after another item is read into it.
 pub fn refilled(to: &mut Out, kind: &str, message: &str, item: &str) {
     let Some(value) = read::<Value>(to, item) else {
         return;
     };
     match kind {
-        "sign1" => refill_sign1(to, message, value),
-        "sign" => refill_sign(to, message, value),
-        "mac0" => refill_mac0(to, message, value),
-        "mac" => refill_mac(to, message, value),
+        "sign1" => refill!(to, message, value, CoseSign1),
+        "sign" => refill!(to, message, value, CoseSign),
+        "mac0" => refill!(to, message, value, CoseMac0),
+        "mac" => refill!(to, message, value, CoseMac),
         _ => to.refuse(NoAnswer::NoArgument),
-    }
-}
-
-fn refill_sign1(to: &mut Out, message: &str, value: Value) {
-    if let Some(mut message) = read::<CoseSign1>(to, message) {
-        let filled = message.fill(to.alloc(), value, Limits::default());
-        show_filled(to, filled, message);
-    }
-}
-
-fn refill_sign(to: &mut Out, message: &str, value: Value) {
-    if let Some(mut message) = read::<CoseSign>(to, message) {
-        let filled = message.fill(to.alloc(), value, Limits::default());
-        show_filled(to, filled, message);
-    }
-}
-
-fn refill_mac0(to: &mut Out, message: &str, value: Value) {
-    if let Some(mut message) = read::<CoseMac0>(to, message) {
-        let filled = message.fill(to.alloc(), value, Limits::default());
-        show_filled(to, filled, message);
-    }
-}
-
-fn refill_mac(to: &mut Out, message: &str, value: Value) {
-    if let Some(mut message) = read::<CoseMac>(to, message) {
-        let filled = message.fill(to.alloc(), value, Limits::default());
-        show_filled(to, filled, message);
     }
 }
 

@@ -1,8 +1,9 @@
 //! Keys, their order and their points.
 use crate::items::read;
-use crate::out::{NoAnswer, Out};
 use coset::iana::{Algorithm, EllipticCurve, EnumI64};
-use coset::{CborOrdering, CborSerializable, CoseError, CoseKey, CoseKeyBuilder, MlDsaVariant};
+use coset::{CborOrdering, CborSerializable, CoseKey, CoseKeyBuilder, MlDsaVariant};
+use std::fmt::Display;
+use test_tools::{NoAnswer, Out};
 
 /// The order with this name.
 fn order(to: &mut Out, name: &str) -> CborOrdering {
@@ -36,10 +37,7 @@ pub fn canonical(to: &mut Out, ordering: &str, key: &str) {
 /// The octet string of a key's point (SEC 1, section 2.3.3).
 pub fn point_of_key(to: &mut Out, key: &str) {
     if let Some(key) = read::<CoseKey>(to, key) {
-        match key.to_sec1_octet_string(to.alloc()) {
-            Ok(octets) => to.hex(octets.as_slice()),
-            Err(error) => to.failure(&error),
-        }
+        to.made(key.to_sec1_octet_string(to.alloc()));
     }
 }
 
@@ -54,22 +52,19 @@ fn curve(to: &mut Out, number: &str) -> EllipticCurve {
     }
 }
 
+/// What is written of a key that was built.
+fn built<E: Display + Drop>(to: &mut Out, builder: Result<CoseKeyBuilder, E>) {
+    if let Some(builder) = to.value(builder) {
+        to.made(builder.build().to_vec(to.alloc()));
+    }
+}
+
 /// The key of a point's octet string.
 pub fn key_of_point(to: &mut Out, on: &str, octets: &str) {
     let on = curve(to, on);
     let octets = to.bytes(octets);
-    match CoseKeyBuilder::new_ec2_pub_key_sec1_octet_string(to.alloc(), on, &octets) {
-        Ok(builder) => to.made(builder.build().to_vec(to.alloc())),
-        Err(error) => to.failure(&error),
-    }
-}
-
-/// What is written of a key that was built.
-fn built(to: &mut Out, builder: Result<CoseKeyBuilder, CoseError>) {
-    match builder {
-        Ok(builder) => to.made(builder.build().to_vec(to.alloc())),
-        Err(error) => to.failure(&error),
-    }
+    let builder = CoseKeyBuilder::new_ec2_pub_key_sec1_octet_string(to.alloc(), on, &octets);
+    built(to, builder);
 }
 
 /// A public key by both coordinates.

@@ -1,17 +1,17 @@
 //! Reading within limits.
-use crate::items::{copied, read};
-use crate::out::{NoAnswer, Out};
+use crate::items::{copied, read, written};
 use crate::protected;
 use coset::cbor::Value;
 use coset::{
-    CoseEncrypt, CoseEncrypt0, CoseMac, CoseMac0, CoseRecipient, CoseSign, CoseSign1,
-    CoseSignature, Header, Limits, ProtectedHeader,
+    CborSerializable, CoseEncrypt, CoseEncrypt0, CoseMac, CoseMac0, CoseRecipient, CoseSign,
+    CoseSign1, CoseSignature, Header, Limits, ProtectedHeader,
 };
+use test_tools::{NoAnswer, Out};
 
 /// The limits that two arguments are.
 pub fn limits(to: &mut Out, nesting: &str, layers: &str) -> Option<Limits> {
-    let nesting = to.size(nesting);
-    let layers = to.size(layers);
+    let nesting = to.number(nesting);
+    let layers = to.number(layers);
     Limits::new(nesting, layers)
 }
 
@@ -39,24 +39,27 @@ pub fn written_back(to: &mut Out, [nesting, layers, kind, item]: [&str; 4]) {
     }
 }
 
+/// What is written of a copy of a value that is read as this type within limits.
+macro_rules! within {
+    ($to:ident, $value:ident, $limits:ident, $kind:ident) => {
+        copied(
+            $to,
+            $kind::from_cbor_value_with($to.alloc(), $value, $limits),
+            $kind::clone,
+            written,
+        )
+    };
+}
+
 /// What is written of a copy of what a value of some kind is read as, within limits.
 pub fn of_kind(to: &mut Out, kind: &str, value: Value, limits: Limits) {
     match kind {
-        "header" => {
-            let read = Header::from_cbor_value_with(to.alloc(), value, limits);
-            copied(to, read, Header::clone);
-        }
-        "signature" => {
-            let read = CoseSignature::from_cbor_value_with(to.alloc(), value, limits);
-            copied(to, read, CoseSignature::clone);
-        }
-        "recipient" => {
-            let read = CoseRecipient::from_cbor_value_with(to.alloc(), value, limits);
-            copied(to, read, CoseRecipient::clone);
-        }
+        "header" => within!(to, value, limits, Header),
+        "signature" => within!(to, value, limits, CoseSignature),
+        "recipient" => within!(to, value, limits, CoseRecipient),
         "protected-header" => {
             let read = ProtectedHeader::from_cbor_bstr_with(to.alloc(), value, limits);
-            protected::copied(to, read);
+            copied(to, read, ProtectedHeader::clone, protected::written);
         }
         _ => of_message(to, kind, value, limits),
     }
@@ -64,30 +67,12 @@ pub fn of_kind(to: &mut Out, kind: &str, value: Value, limits: Limits) {
 
 fn of_message(to: &mut Out, kind: &str, value: Value, limits: Limits) {
     match kind {
-        "sign1" => {
-            let read = CoseSign1::from_cbor_value_with(to.alloc(), value, limits);
-            copied(to, read, CoseSign1::clone);
-        }
-        "sign" => {
-            let read = CoseSign::from_cbor_value_with(to.alloc(), value, limits);
-            copied(to, read, CoseSign::clone);
-        }
-        "mac0" => {
-            let read = CoseMac0::from_cbor_value_with(to.alloc(), value, limits);
-            copied(to, read, CoseMac0::clone);
-        }
-        "mac" => {
-            let read = CoseMac::from_cbor_value_with(to.alloc(), value, limits);
-            copied(to, read, CoseMac::clone);
-        }
-        "encrypt0" => {
-            let read = CoseEncrypt0::from_cbor_value_with(to.alloc(), value, limits);
-            copied(to, read, CoseEncrypt0::clone);
-        }
-        "encrypt" => {
-            let read = CoseEncrypt::from_cbor_value_with(to.alloc(), value, limits);
-            copied(to, read, CoseEncrypt::clone);
-        }
+        "sign1" => within!(to, value, limits, CoseSign1),
+        "sign" => within!(to, value, limits, CoseSign),
+        "mac0" => within!(to, value, limits, CoseMac0),
+        "mac" => within!(to, value, limits, CoseMac),
+        "encrypt0" => within!(to, value, limits, CoseEncrypt0),
+        "encrypt" => within!(to, value, limits, CoseEncrypt),
         _ => to.refuse(NoAnswer::NoArgument),
     }
 }

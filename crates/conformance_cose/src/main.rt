@@ -10,21 +10,17 @@ mod items;
 mod keys;
 mod limits;
 mod messages;
-mod out;
 mod parts;
 mod protected;
 mod received;
-mod rows;
 mod rules;
 mod structures;
 mod tags;
 mod widest;
 
 use std::io;
+use test_tools::rows;
 
 fn main(rt: HostRuntime) -> io::Result<()> {
-    let text = io::read_to_string(rt.alloc(), rt.stdin())?;
-    let report = rows::report(rt.alloc(), text.as_str());
-    let report = report.as_str();
-    print!(rt; "{report}")
+    rows::run(&rt, calls::answer)
 }

@@ -1,13 +1,13 @@
 //! What signatures and tags of messages cover, and what verifiers and ciphers are handed.
 ghost use Rattle.coset_recipients.specs.Structure.{IsRecipientContext};
 
-use crate::items::read;
-use crate::out::{NoAnswer, Out};
+use crate::items::{self, read};
 use coset::{
     CoseEncrypt, CoseEncrypt0, CoseMac, CoseMac0, CoseRecipient, CoseSign, CoseSign1,
     CoseSignature, EncryptionContext, Fault,
 };
 use std::alloc::Global;
+use test_tools::{NoAnswer, Out};
 
 /// What the signature of a COSE_Sign1 covers.
 pub fn sign1_covered(to: &mut Out, message: &str, aad: &str) {
@@ -80,8 +80,60 @@ fn told<T: Drop>(to: &mut Out, outcome: Result<T, Fault<Out>>) {
     }
 }
 
-/// What the verifier of a COSE_Sign1 is handed.
-pub fn sign1_handed(to: &mut Out, message: &str, aad: &str) {
+/// What is handed of a message of this kind to the verifier or the cipher of this call.
+macro_rules! hand {
+    (
+        $to:ident, $message:ident, $aad:ident, $kind:ident.$call:ident($($word:expr)?),
+        $missing:expr
+    ) => {{
+        let alloc = $to.alloc();
+        let aad = $to.bytes($aad);
+        if let Some(message) = read::<$kind>($to, $message) {
+            let outcome = message.$call(
+                alloc,
+                $($word,)?
+                &aad,
+                move || noted(alloc, $missing),
+                move |first, data| Err(handed(alloc, first, data)),
+            );
+            told($to, outcome);
+        }
+    }};
+}
+
+/// What the verifier or the cipher of a message is handed. Of a COSE_Sign that of the first
+/// signature.
+pub fn of_call(to: &mut Out, call: &str, message: &str, aad: &str) {
+    match call {
+        "sign1-verifier" => sign1_handed(to, message, aad),
+        "sign-verifier" => sign_handed(to, message, aad),
+        "mac0-verifier" => hand!(
+            to,
+            message,
+            aad,
+            CoseMac0.verify_payload_tag(),
+            "no payload"
+        ),
+        "mac-verifier" => hand!(to, message, aad, CoseMac.verify_payload_tag(), "no payload"),
+        "encrypt0-cipher" => hand!(
+            to,
+            message,
+            aad,
+            CoseEncrypt0.decrypt_ciphertext(),
+            "no ciphertext"
+        ),
+        "encrypt-cipher" => hand!(
+            to,
+            message,
+            aad,
+            CoseEncrypt.decrypt_ciphertext(),
+            "no ciphertext"
+        ),
+        _ => items::same(to, call, message, aad),
+    }
+}
+
+fn sign1_handed(to: &mut Out, message: &str, aad: &str) {
     let alloc = to.alloc();
     let aad = to.bytes(aad);
     if let Some(message) = read::<CoseSign1>(to, message) {
@@ -92,8 +144,7 @@ pub fn sign1_handed(to: &mut Out, message: &str, aad: &str) {
     }
 }
 
-/// What the verifier of the first signature of a COSE_Sign is handed.
-pub fn sign_handed(to: &mut Out, message: &str, aad: &str) {
+fn sign_handed(to: &mut Out, message: &str, aad: &str) {
     let alloc = to.alloc();
     let aad = to.bytes(aad);
     if let Some(message) = read::<CoseSign>(to, message) {
@@ -104,66 +155,6 @@ pub fn sign_handed(to: &mut Out, message: &str, aad: &str) {
         let outcome = message.verify_signature(alloc, 0, &aad, move |signature, data| {
             Err(handed(alloc, signature, data))
         });
-        told(to, outcome);
-    }
-}
-
-/// What the verifier of a COSE_Mac0 is handed.
-pub fn mac0_handed(to: &mut Out, message: &str, aad: &str) {
-    let alloc = to.alloc();
-    let aad = to.bytes(aad);
-    if let Some(message) = read::<CoseMac0>(to, message) {
-        let outcome = message.verify_payload_tag(
-            alloc,
-            &aad,
-            move || noted(alloc, "no payload"),
-            move |tag, data| Err(handed(alloc, tag, data)),
-        );
-        told(to, outcome);
-    }
-}
-
-/// What the verifier of a COSE_Mac is handed.
-pub fn mac_handed(to: &mut Out, message: &str, aad: &str) {
-    let alloc = to.alloc();
-    let aad = to.bytes(aad);
-    if let Some(message) = read::<CoseMac>(to, message) {
-        let outcome = message.verify_payload_tag(
-            alloc,
-            &aad,
-            move || noted(alloc, "no payload"),
-            move |tag, data| Err(handed(alloc, tag, data)),
-        );
-        told(to, outcome);
-    }
-}
-
-/// What the cipher of a COSE_Encrypt0 is handed.
-pub fn encrypt0_handed(to: &mut Out, message: &str, aad: &str) {
-    let alloc = to.alloc();
-    let aad = to.bytes(aad);
-    if let Some(message) = read::<CoseEncrypt0>(to, message) {
-        let outcome = message.decrypt_ciphertext(
-            alloc,
-            &aad,
-            move || noted(alloc, "no ciphertext"),
-            move |sealed, data| Err(handed(alloc, sealed, data)),
-        );
-        told(to, outcome);
-    }
-}
-
-/// What the cipher of a COSE_Encrypt is handed.
-pub fn encrypt_handed(to: &mut Out, message: &str, aad: &str) {
-    let alloc = to.alloc();
-    let aad = to.bytes(aad);
-    if let Some(message) = read::<CoseEncrypt>(to, message) {
-        let outcome = message.decrypt_ciphertext(
-            alloc,
-            &aad,
-            move || noted(alloc, "no ciphertext"),
-            move |sealed, data| Err(handed(alloc, sealed, data)),
-        );
         told(to, outcome);
     }
 }
@@ -181,16 +172,11 @@ pub fn recipient_handed(to: &mut Out, context: &str, recipient: &str, aad: &str)
 fn in_context(to: &mut Out, recipient: &str, context: EncryptionContext, aad: &str)
     requires { IsRecipientContext context }
 {
-    let alloc = to.alloc();
-    let aad = to.bytes(aad);
-    if let Some(recipient) = read::<CoseRecipient>(to, recipient) {
-        let outcome = recipient.decrypt_ciphertext(
-            alloc,
-            context,
-            &aad,
-            move || noted(alloc, "no ciphertext"),
-            move |sealed, data| Err(handed(alloc, sealed, data)),
-        );
-        told(to, outcome);
-    }
+    hand!(
+        to,
+        recipient,
+        aad,
+        CoseRecipient.decrypt_ciphertext(context),
+        "no ciphertext"
+    )
 }

@@ -1,10 +1,10 @@
 //! Parts of claims and of contexts of key derivation.
 use crate::items::read;
-use crate::out::{NoAnswer, Out};
 use coset::cbor::{Float, Value};
 use coset::cwt::{ClaimsSet, Timestamp};
 use coset::{AsCborValue, Nonce, PartyInfo, SuppPubInfo};
 use std::cmp::Ordering;
+use test_tools::Out;
 
 /// When a token expires.
 pub fn expiration(to: &mut Out, claims: &str) {
@@ -77,10 +77,7 @@ fn of_value(to: &mut Out, value: &Value) {
 
 /// How a time stands to a number of seconds.
 pub fn against(to: &mut Out, item: &str, seconds: &str) {
-    let Ok(seconds) = seconds.parse::<i64>() else {
-        to.refuse(NoAnswer::NoArgument);
-        return;
-    };
+    let seconds = to.number(seconds);
     if let Some(value) = read::<Value>(to, item) {
         let time = Timestamp::from_cbor_value(to.alloc(), value);
         if let Some(time) = to.value(time) {

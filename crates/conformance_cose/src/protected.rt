@@ -1,10 +1,10 @@
 //! Protected headers. An item stands for each: a byte string for one that was received, and a map
 //! for one that was not.
 use crate::items;
-use crate::out::Out;
 use coset::cbor::Value;
-use coset::{AsCborValue, CoseError, ProtectedHeader, write_to_vec};
+use coset::{AsCborValue, CoseError, ProtectedHeader};
 use std::alloc::Global;
+use test_tools::Out;
 
 /// The protected header that an item stands for, or none after the text of its error.
 pub fn read(to: &mut Out, item: &str) -> Option<ProtectedHeader> {
@@ -29,34 +29,16 @@ fn of_value(alloc: Global, value: Value) -> Result<ProtectedHeader, CoseError> {
 pub fn bstr(to: &mut Out, item: &str) {
     if let Some(value) = items::read::<Value>(to, item) {
         let header = of_value(to.alloc(), value);
-        copied(to, header);
-    }
-}
-
-/// The byte string that a copy of what was read is written as, and that of the value itself, if
-/// that is another.
-pub fn copied(to: &mut Out, read: Result<ProtectedHeader, CoseError>) {
-    if let Some(read) = to.value(read) {
-        let copied = read.clone(to.alloc());
-        if let Some(copied) = to.kept(copied) {
-            if copied == read {
-                let copied = encoded(to.alloc(), copied);
-                let read = encoded(to.alloc(), read);
-                to.both(&copied, &read);
-            } else {
-                to.text("another copy");
-            }
-        }
+        items::copied(to, header, ProtectedHeader::clone, written);
     }
 }
 
 /// The byte string that a protected header is written as.
-pub fn encoded(alloc: Global, header: ProtectedHeader) -> Out {
-    let mut out = Out::new(alloc);
-    if let Some(value) = out.value(header.cbor_bstr(alloc)) {
-        out.made(write_to_vec(alloc, &value));
+pub fn written(to: &mut Out, header: ProtectedHeader) {
+    let value = header.cbor_bstr(to.alloc());
+    if let Some(value) = to.value(value) {
+        items::written(to, value);
     }
-    out
 }
 
 /// Whether a protected header has no field.

@@ -1,8 +1,8 @@
 //! Whether headers and signatures are as received, also such as no item is read as.
-use crate::out::Out;
 use crate::{items, protected};
 use coset::{CoseSignature, Header};
 use std::alloc::{AllocError, Global};
+use test_tools::Out;
 
 /// Whether a protected header is as received.
 pub fn is_protected(to: &mut Out, item: &str) {

@@ -1,6 +1,5 @@
 //! Which signatures and MACs may be asked about, and which claims let a token pass.
 use crate::items::read;
-use crate::out::{NoAnswer, Out};
 use crate::protected;
 use cose_rules::{
     Audience, Layer, Ruling, Scheme, TokenTerms, VERIFY, claims_of, claims_refusal,
@@ -8,6 +7,7 @@ use cose_rules::{
 };
 use coset::cbor::Value;
 use coset::{CoseKey, CoseKeySet, Header, Label, ProtectedHeader};
+use test_tools::{NoAnswer, Out};
 
 /// A protected header and an unprotected one.
 fn headers(to: &mut Out, protected: &str, unprotected: &str) -> Option<(ProtectedHeader, Header)> {

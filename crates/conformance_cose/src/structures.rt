@@ -1,10 +1,10 @@
 //! The structures that signatures, tags and encryptions cover. A context is named by its text.
-use crate::out::{NoAnswer, Out};
 use crate::protected::read;
 use coset::{
     EncryptionContext, MacContext, SignatureContext, bytes_title, enc_structure_data,
     mac_structure_data, sig_structure_data,
 };
+use test_tools::{NoAnswer, Out};
 
 fn signature_context(text: &str) -> Option<SignatureContext> {
     match text {
@@ -137,6 +137,6 @@ pub fn signer_prefix(to: &mut Out, context: &str) {
 
 /// The title of a byte string of that length.
 pub fn title(to: &mut Out, length: &str) {
-    let length = to.size(length);
+    let length = to.number(length);
     to.hex(bytes_title(length).as_slice());
 }

@@ -1,6 +1,6 @@
 //! Tags by HMAC with SHA-256.
-use crate::out::{NoAnswer, Out};
 use cose_hmac::{HmacSha256, hmac_sha256, same_tag};
+use test_tools::{NoAnswer, Out};
 
 /// The tag of a text.
 pub fn whole(to: &mut Out, key: &str, text: &str) {
@@ -12,7 +12,7 @@ pub fn whole(to: &mut Out, key: &str, text: &str) {
 
 /// The tag of a text that comes in pieces of this length, begun as a clone.
 pub fn in_pieces(to: &mut Out, length: &str, key: &str, text: &str) {
-    let length = to.size(length);
+    let length = to.number::<usize>(length);
     let key = to.bytes(key);
     let text = to.bytes(text);
     if length == 0 {

@@ -1,8 +1,8 @@
 //! Messages in which as much lies inside one another as limits let through.
 use crate::limits;
-use crate::out::{NoAnswer, Out};
 use coset::{Limits, bytes_title, read_to_value};
 use std::alloc::Global;
+use test_tools::{NoAnswer, Out};
 
 /// The length of a message of some kind, in whose unprotected header as many counter signatures lie
 /// inside one another as a nesting and layers let through, if a copy of it is written back as the

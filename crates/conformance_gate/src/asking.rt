@@ -1,14 +1,12 @@
-//! Questions as records, the messages that some of them were accepted for, and runs of the program
-//! by `callers`.
-use crate::gating::{add_end, add_output};
+//! Questions as records, the messages that some of them were accepted for, and runs of the program.
+use crate::gating::{Way, add_end, add_output, gated};
 use crate::out::{NoAnswer, Out};
-use crate::program::{aad_word, add_ended, add_left, shown, shown_writer};
+use crate::program::{aad_word, add_ended, shown, shown_writer};
 use crate::relaying::add_ids;
 use crate::words;
-use callers::asking::{run_accepted, run_by_ids, run_exact, run_gated};
-use callers::gatings::Gating;
+use callers::asking::{run_exact, run_gated};
 use callers::judging::KeyIds;
-use cose_gate::Asker;
+use cose_gate::{Accepted, Asker, Mem, Silent, Terms, run_judged};
 
 /// The records of the questions of this input, and how the run ended.
 pub fn ask(to: &mut Out, row: &mut &str) {
@@ -35,33 +33,38 @@ pub fn pass(to: &mut Out, row: &mut &str) {
     let accepted = words::bytes(to, row);
     let input = words::bytes(to, row);
     let aad = words::bytes(to, row);
-    match callers::asking::pass(to.alloc(), &accepted, &input, &aad) {
-        Ok(Some((output, counts))) => {
-            add_output(to, &output);
-            add_end(to, Ok(counts));
-        }
+    match Accepted::new(to.alloc(), &accepted) {
+        Ok(Some(judge)) => pass_by(to, &input, &aad, judge),
         Ok(None) => to.text("no records"),
-        Err(fault) => add_end(to, Err(fault)),
+        Err(_) => to.refuse(NoAnswer::Memory),
     }
 }
 
+fn pass_by(to: &mut Out, input: &[u8], aad: &[u8], judge: Accepted) {
+    let (alloc, way, mut judge) = (to.alloc(), Way::Plain, judge);
+    let mut out = Mem::new(Vec::new(alloc));
+    let ended = gated(alloc, way, input, aad, &mut out, &mut Silent, &mut judge);
+    add_output(to, out.as_written());
+    add_end(to, ended);
+}
+
 /// The limits that the next two arguments are, and whether the one after them is `strict`.
-fn read_gating(to: &mut Out, row: &mut &str) -> Gating {
-    Gating {
+fn read_terms(to: &mut Out, row: &mut &str) -> Terms {
+    Terms {
         limits: words::limits(to, row),
         strict: words::word(to, row) == "strict",
     }
 }
 
 /// The program with these keys and this AADHEX: its status, its output, and its lines.
-pub fn gated(to: &mut Out, row: &mut &str) {
-    let gating = read_gating(to, row);
+pub fn within(to: &mut Out, row: &mut &str) {
+    let terms = read_terms(to, row);
     let keys = words::optional(to, row);
     let aad = aad_word(words::word(to, row));
     let input = words::bytes(to, row);
     let (mut out, mut err) = (shown_writer(to), shown_writer(to));
     let (alloc, keys, mut left) = (to.alloc(), keys.as_deref(), input.as_slice());
-    let status = run_gated(alloc, gating, keys, aad, &mut left, &mut out, &mut err);
+    let status = run_gated(alloc, terms, keys, aad, &mut left, &mut out, &mut err);
     add_ended(to, status, shown(&out), shown(&err));
 }
 
@@ -77,24 +80,10 @@ pub fn exact(to: &mut Out, row: &mut &str) {
     add_ended(to, status, shown(&out), shown(&err));
 }
 
-/// The program that passes what these records were accepted for: its status, its output, its lines,
-/// and how many bytes of the input are left.
-pub fn accepted(to: &mut Out, row: &mut &str) {
-    let gating = read_gating(to, row);
-    let records = words::bytes(to, row);
-    let aad = words::bytes(to, row);
-    let input = words::bytes(to, row);
-    let (mut out, mut err) = (shown_writer(to), shown_writer(to));
-    let (alloc, mut left) = (to.alloc(), input.as_slice());
-    let status = run_accepted(alloc, gating, &records, &aad, &mut left, &mut out, &mut err);
-    add_ended(to, status, shown(&out), shown(&err));
-    add_left(to, left.len());
-}
-
 /// The program with a judge that knows one key id: its status, its output, its lines, and the key
 /// ids that its judge was asked about.
 pub fn by_ids(to: &mut Out, row: &mut &str) {
-    let gating = read_gating(to, row);
+    let terms = read_terms(to, row);
     let key_id = words::bytes(to, row);
     let aad = words::bytes(to, row);
     let input = words::bytes(to, row);
@@ -102,7 +91,7 @@ pub fn by_ids(to: &mut Out, row: &mut &str) {
     let mut ids = KeyIds::new(to.alloc(), &known);
     let (mut out, mut err) = (shown_writer(to), shown_writer(to));
     let (alloc, mut left) = (to.alloc(), input.as_slice());
-    let status = run_by_ids(alloc, gating, &aad, &mut left, &mut out, &mut err, &mut ids);
+    let status = run_judged(alloc, terms, &aad, &mut left, &mut out, &mut err, &mut ids);
     add_ended(to, status, shown(&out), shown(&err));
     add_ids(to, ids.asked());
 }

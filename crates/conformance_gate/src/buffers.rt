@@ -1,7 +1,7 @@
 //! Calls over buffers of so many bytes: those that `cose_gate_c` exports to C.
 use crate::out::{NoAnswer, Out};
 use crate::words;
-use cose_gate_records::{Answer, Choice, ask, check, pass};
+use cose_gate_records::{Answer, Choice, ask, check, pass, pass_digests};
 
 /// What each byte of an output is before a call, and each byte of the lines.
 const UNWRITTEN: u8 = 0xee;
@@ -67,23 +67,35 @@ pub fn ask_into(to: &mut Out, row: &mut &str) {
     add_answer(to, answer, &questions, &lines);
 }
 
-/// The messages whose records were accepted.
-pub fn pass_into(to: &mut Out, row: &mut &str) {
+/// The messages whose records, or digests, were accepted.
+pub fn pass_into(to: &mut Out, row: &mut &str, digests: bool) {
     let mut out = buffer(to, row, UNWRITTEN);
     let mut lines = buffer(to, row, NO_LINE);
     let choice = read_choice(to, row);
     let accepted = words::bytes(to, row);
     let aad = words::bytes(to, row);
     let input = words::bytes(to, row);
-    let answer = pass(
-        to.alloc(),
-        choice,
-        &accepted,
-        &aad,
-        &input,
-        out.as_mut_slice(),
-        lines.as_mut_slice(),
-    );
+    let answer = if digests {
+        pass_digests(
+            to.alloc(),
+            choice,
+            &accepted,
+            &aad,
+            &input,
+            out.as_mut_slice(),
+            lines.as_mut_slice(),
+        )
+    } else {
+        pass(
+            to.alloc(),
+            choice,
+            &accepted,
+            &aad,
+            &input,
+            out.as_mut_slice(),
+            lines.as_mut_slice(),
+        )
+    };
     add_answer(to, answer, &out, &lines);
 }
 

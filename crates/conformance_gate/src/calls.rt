@@ -77,7 +77,8 @@ fn of_buffers(to: &mut Out, name: &str, row: &mut &str) {
     match name {
         "check-into" => buffers::check_into(to, row),
         "ask-into" => buffers::ask_into(to, row),
-        "pass-into" => buffers::pass_into(to, row),
+        "pass-into" => buffers::pass_into(to, row, false),
+        "pass-digests-into" => buffers::pass_into(to, row, true),
         _ => uses::answer(to, name, row),
     }
 }

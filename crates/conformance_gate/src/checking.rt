@@ -1,9 +1,8 @@
 //! Messages checked under the keys of a set.
 use crate::judging::read_keys;
 use crate::out::Out;
-use crate::program::add_ended;
 use crate::words;
-use cose_gate::{Decoder, HmacJudge, Limits, Mem};
+use cose_gate::{Decoder, HmacJudge, Limits};
 
 /// Whether the message in front carries a good tag, read through four bytes, and how many bytes
 /// were taken.
@@ -40,24 +39,4 @@ pub fn is_fed(to: &mut Out, row: &mut &str) {
         Ok(yes) => to.yes_or_no(yes),
         Err(fault) => to.debug(&fault),
     }
-}
-
-/// The program with these arguments: its status, its output, and its lines.
-pub fn program(to: &mut Out, row: &mut &str) {
-    let keys = words::optional(to, row);
-    let input = words::bytes(to, row);
-    let all = words::owned(to, row);
-    let alloc = to.alloc();
-    let mut reader = input.as_slice();
-    let mut out = Mem::new(Vec::new(alloc));
-    let mut err = Mem::new(Vec::new(alloc));
-    let status = callers::checking::program(
-        alloc,
-        &all,
-        keys.as_deref(),
-        &mut reader,
-        &mut out,
-        &mut err,
-    );
-    add_ended(to, status, out.as_written(), err.as_written());
 }

@@ -81,7 +81,7 @@ fn front<'a>(to: &mut Out, word: &'a str, count: usize) -> &'a str {
         Some("") => "-",
         Some(front) => front,
         None => {
-            to.refuse(NoAnswer::NotHex);
+            to.refuse(NoAnswer::NoArgument);
             "-"
         }
     }

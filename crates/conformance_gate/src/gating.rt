@@ -2,8 +2,8 @@
 use crate::out::Out;
 use crate::words;
 use cose_gate::{
-    Asked, Counts, Decoder, End, Entry, GateFault, Limits, Mem, Recorder, Refusal, Report, Silent,
-    Verdict, Write, gate, gate_strict, gate_strict_with, gate_with,
+    Asked, Counts, Decoder, End, Entry, GateFault, Judge, Limits, Mem, Recorder, Refusal, Report,
+    Silent, Verdict, Write, gate, gate_strict, gate_strict_with, gate_with,
 };
 use std::alloc::Global;
 
@@ -12,7 +12,7 @@ pub type Ended = Result<Counts, GateFault<End>>;
 
 /// Which of the four calls of the gate makes a run.
 #[derive(Clone, Copy)]
-enum Way {
+pub enum Way {
     Plain,
     Within(Limits),
     Strict,
@@ -21,14 +21,14 @@ enum Way {
 
 /// A run by one of these calls. It has no contract: so the gate's many clauses are not proved over
 /// again in its callers.
-fn gated<W: Write, P: Report>(
+pub fn gated<W: Write, P: Report, J: Judge>(
     alloc: Global,
     way: Way,
     input: &[u8],
     aad: &[u8],
     out: &mut W,
     report: &mut P,
-    judge: &mut Recorder,
+    judge: &mut J,
 ) -> Ended {
     let mut decoder = Decoder::from(input);
     match way {

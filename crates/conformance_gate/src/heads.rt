@@ -12,41 +12,6 @@ pub fn first(to: &mut Out, row: &mut &str) {
     }
 }
 
-/// The first head, by the calls that leave it in the decoder, `take_head` and `pull_head`.
-pub fn asked(to: &mut Out, row: &mut &str) {
-    let input = words::bytes(to, row);
-    match callers::heads::head_asked(&input) {
-        Ok(head) => to.debug(&head),
-        Err(error) => to.debug(&error),
-    }
-}
-
-/// The number at the front.
-pub fn number(to: &mut Out, row: &mut &str) {
-    let input = words::bytes(to, row);
-    match callers::heads::first_number(&input) {
-        Ok(number) => to.debug(&number),
-        Err(error) => to.debug(&error),
-    }
-}
-
-/// The length of the byte string at the front.
-pub fn string_len(to: &mut Out, row: &mut &str) {
-    let input = words::bytes(to, row);
-    match callers::heads::string_len(&input) {
-        Ok(len) => to.debug(&len),
-        Err(error) => to.debug(&error),
-    }
-}
-
-/// The bytes and the end of a line.
-pub fn line(to: &mut Out, row: &mut &str) {
-    let mut out = Mem::new(words::bytes(to, row));
-    let done = callers::heads::end_line(&mut out);
-    to.note(done);
-    to.hex(out.as_written());
-}
-
 /// The length that the first head, of an array, states.
 pub fn array_len(to: &mut Out, row: &mut &str) {
     let input = words::bytes(to, row);
@@ -60,7 +25,7 @@ pub fn array_len(to: &mut Out, row: &mut &str) {
 pub fn numbers(to: &mut Out, row: &mut &str) {
     let mut numbers = Vec::new(to.alloc());
     for word in words::rest(row).split(' ') {
-        let number = words::parsed(to, word) as u64;
+        let number = to.number::<u64>(word);
         if numbers.push(number).is_err() {
             to.refuse(NoAnswer::Memory);
         }

@@ -4,32 +4,6 @@ use crate::words;
 use ciborium::tag::Captured;
 use coset_labels::CborSerializable;
 
-/// The points of a name in a map, and how many bytes are left.
-pub fn points(to: &mut Out, row: &mut &str) {
-    let name = words::word(to, row);
-    let input = words::bytes(to, row);
-    let mut left = input.as_slice();
-    match callers::items::points_of(to.alloc(), &mut left, name) {
-        Ok(points) => {
-            to.debug(&points);
-            to.text(", ");
-            to.show(&left.len());
-            to.text(" left");
-        }
-        Err(error) => to.debug(&error),
-    }
-}
-
-/// The first time of a list.
-pub fn first_time(to: &mut Out, row: &mut &str) {
-    let input = words::bytes(to, row);
-    let mut left = input.as_slice();
-    match callers::items::first_time(to.alloc(), &mut left) {
-        Ok(time) => to.debug(&time),
-        Err(error) => to.debug(&error),
-    }
-}
-
 /// A pair of a text and a number, and its tag.
 pub fn labelled(to: &mut Out, row: &mut &str) {
     let input = words::bytes(to, row);
@@ -60,7 +34,7 @@ pub fn whole(to: &mut Out, row: &mut &str) {
 pub fn front(to: &mut Out, row: &mut &str) {
     let input = words::bytes(to, row);
     match callers::items::front_value(to.alloc(), &input) {
-        Ok(value) => to.written(value.to_vec(to.alloc())),
+        Ok(value) => to.made(value.to_vec(to.alloc())),
         Err((error, taken)) => {
             to.debug(&error);
             to.text(" after ");
@@ -74,9 +48,9 @@ pub fn two(to: &mut Out, row: &mut &str) {
     let input = words::bytes(to, row);
     match callers::items::two_values(to.alloc(), &input) {
         Ok((one, two)) => {
-            to.written(one.to_vec(to.alloc()));
+            to.made(one.to_vec(to.alloc()));
             to.text(" ");
-            to.written(two.to_vec(to.alloc()));
+            to.made(two.to_vec(to.alloc()));
         }
         Err(error) => to.debug(&error),
     }

@@ -140,7 +140,7 @@ fn add_answer(to: &mut Out, judge: &mut HmacJudge, case: &Case, word: &str) {
         return;
     };
     let kind = kind_of(to, kind);
-    let tag = words::decoded(to, tag);
+    let tag = to.bytes(tag);
     ask(to, judge, case, kind);
     to.yes_or_no(judge.decide(&tag));
 }

@@ -13,10 +13,8 @@ mod heads;
 mod items;
 mod judging;
 mod keeping;
-mod out;
 mod program;
 mod relaying;
-mod rows;
 mod showing;
 mod signing;
 mod streaming;
@@ -24,10 +22,8 @@ mod uses;
 mod words;
 
 use std::io;
+use test_tools as out;
 
 fn main(rt: HostRuntime) -> io::Result<()> {
-    let text = io::read_to_string(rt.alloc(), rt.stdin())?;
-    let findings = rows::findings(rt.alloc(), text.as_str());
-    let findings = findings.as_str();
-    print!(rt; "{findings}")
+    out::rows::run(&rt, calls::answer)
 }

@@ -10,7 +10,7 @@ use cose_stream::{
 use std::alloc::Global;
 use std::cell::RefCell;
 use std::io::{BufWriter, Cursor};
-use test_tools::Held;
+use test_tools::Sink;
 
 /// A run with these keys and this AADHEX: its status, its output, and its lines.
 pub fn run(to: &mut Out, row: &mut &str) {
@@ -28,7 +28,7 @@ fn run_flushed(to: &mut Out, flushes: usize, row: &mut &str) -> usize {
     let keys = words::optional(to, row);
     let aad = aad_word(words::word(to, row));
     let input = words::bytes(to, row);
-    let mut out = Held::new(to.alloc(), flushes);
+    let mut out = Sink::flushed(to.alloc(), flushes);
     let mut err = shown_writer(to);
     let mut reader = input.as_slice();
     let keys = keys.as_deref();
@@ -77,12 +77,12 @@ pub fn command(to: &mut Out, row: &mut &str) {
 }
 
 /// A writer that shows what was flushed, and can always be flushed.
-pub fn shown_writer(to: &Out) -> Held {
-    Held::new(to.alloc(), usize::MAX)
+pub fn shown_writer(to: &Out) -> Sink {
+    Sink::flushed(to.alloc(), usize::MAX)
 }
 
 /// What was flushed.
-pub fn shown(held: &Held) -> &[u8] {
+pub fn shown(held: &Sink) -> &[u8] {
     held.bytes.get(..held.shown).unwrap_or(&[])
 }
 
@@ -162,7 +162,7 @@ pub fn stream_held(to: &mut Out, row: &mut &str) {
 }
 
 fn stream_flushed(to: &mut Out, flushes: usize, row: &mut &str) {
-    let mut out = Held::new(to.alloc(), flushes);
+    let mut out = Sink::flushed(to.alloc(), flushes);
     if let Some((status, err)) = streamed(to, row, &mut out) {
         add_ended(to, status, shown(&out), shown(&err));
     }
@@ -179,7 +179,7 @@ pub fn stream_in_room(to: &mut Out, row: &mut &str) {
 }
 
 /// The check of a message: the status, and the lines.
-fn streamed<W: Write>(to: &mut Out, row: &mut &str, out: &mut W) -> Option<(u8, Held)> {
+fn streamed<W: Write>(to: &mut Out, row: &mut &str, out: &mut W) -> Option<(u8, Sink)> {
     let keys = words::optional(to, row);
     let input = words::bytes(to, row);
     let all = words::owned(to, row);

@@ -22,7 +22,7 @@ pub fn show(to: &mut Out, row: &mut &str) {
 /// The bytes of KEYS, whose name is those bytes in hex here.
 fn keys_of(to: &mut Out, options: Options<'_>) -> Option<Vec<u8>> {
     match options.keys {
-        Some(word) => Some(words::decoded(to, word)),
+        Some(word) => Some(to.bytes(word)),
         None => None,
     }
 }
@@ -72,7 +72,7 @@ pub fn pieces(to: &mut Out, row: &mut &str) {
     let block = words::number(to, row);
     let input = words::bytes(to, row);
     if block == 0 {
-        to.refuse(NoAnswer::NoNumber);
+        to.refuse(NoAnswer::NoArgument);
     }
     let mut cutter = Cutter::new(to.alloc(), size);
     let mut pieces = Out::new(to.alloc());

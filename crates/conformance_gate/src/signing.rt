@@ -18,7 +18,7 @@ pub fn signed(to: &mut Out, row: &mut &str) {
     let payload = words::bytes(to, row);
     let header = Header::new(to.alloc());
     match callers::signing::signed(to.alloc(), header, payload, &aad, &secret) {
-        Ok(message) => to.written(message.to_tagged_vec(to.alloc())),
+        Ok(message) => to.made(message.to_tagged_vec(to.alloc())),
         Err(Fault::Caller(_)) => to.refuse(NoAnswer::Memory),
         Err(Fault::Cose(error)) => to.not_read(error),
     }
@@ -30,15 +30,6 @@ pub fn signed_payload(to: &mut Out, row: &mut &str) {
     let aad = words::bytes(to, row);
     let message = words::bytes(to, row);
     let payload = callers::signing::signed_payload(to.alloc(), &message, &aad, &secret);
-    add_payload(to, payload);
-}
-
-/// The payload of a tagged COSE_Mac0.
-pub fn tagged_payload(to: &mut Out, row: &mut &str) {
-    let secret = read_secret(to, row);
-    let aad = words::bytes(to, row);
-    let message = words::bytes(to, row);
-    let payload = callers::signing::tagged_payload(to.alloc(), &message, &aad, &secret);
     add_payload(to, payload);
 }
 

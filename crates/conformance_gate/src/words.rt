@@ -23,24 +23,10 @@ pub fn rest<'a>(row: &mut &'a str) -> &'a str {
     rest
 }
 
-/// The bytes that an argument is in hex. `-` is none.
-pub fn decoded(to: &mut Out, word: &str) -> Vec<u8> {
-    if word == "-" {
-        return Vec::new(to.alloc());
-    }
-    match hex::decode(to.alloc(), word) {
-        Ok(bytes) => bytes,
-        Err(_) => {
-            to.refuse(NoAnswer::NotHex);
-            Vec::new(to.alloc())
-        }
-    }
-}
-
 /// The bytes that the next argument is.
 pub fn bytes(to: &mut Out, row: &mut &str) -> Vec<u8> {
     let word = word(to, row);
-    decoded(to, word)
+    to.bytes(word)
 }
 
 /// The bytes that the next argument is. `none` is no bytes at all.
@@ -49,7 +35,7 @@ pub fn optional(to: &mut Out, row: &mut &str) -> Option<Vec<u8>> {
     if word == "none" {
         return None;
     }
-    Some(decoded(to, word))
+    Some(to.bytes(word))
 }
 
 /// The bytes that the last argument is, if there is one.
@@ -60,21 +46,10 @@ pub fn last(to: &mut Out, row: &mut &str) -> Option<Vec<u8>> {
     Some(bytes(to, row))
 }
 
-/// The number that an argument is.
-pub fn parsed(to: &mut Out, word: &str) -> usize {
-    match word.parse::<usize>() {
-        Ok(number) => number,
-        Err(_) => {
-            to.refuse(NoAnswer::NoNumber);
-            0
-        }
-    }
-}
-
 /// The number that the next argument is.
 pub fn number(to: &mut Out, row: &mut &str) -> usize {
     let word = word(to, row);
-    parsed(to, word)
+    to.number(word)
 }
 
 /// The limits that the next two arguments are.
@@ -84,7 +59,7 @@ pub fn limits(to: &mut Out, row: &mut &str) -> Limits {
     match Limits::new(nesting, layers) {
         Some(limits) => limits,
         None => {
-            to.refuse(NoAnswer::NoNumber);
+            to.refuse(NoAnswer::NoArgument);
             Limits::default()
         }
     }
@@ -102,12 +77,10 @@ pub fn owned(to: &mut Out, row: &mut &str) -> Vec<String> {
 }
 
 fn add(to: &mut Out, owned: &mut Vec<String>, word: &str) {
-    match String::from_str(to.alloc(), word) {
-        Ok(word) => {
-            if owned.push(word).is_err() {
-                to.refuse(NoAnswer::Memory);
-            }
+    let word = String::from_str(to.alloc(), word);
+    if let Some(word) = to.kept(word) {
+        if owned.push(word).is_err() {
+            to.refuse(NoAnswer::Memory);
         }
-        Err(_) => to.refuse(NoAnswer::Memory),
     }
 }

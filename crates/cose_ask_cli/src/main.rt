@@ -1,7 +1,8 @@
 //! `cose-ask [--strict] [--lines] [--fields] [AADHEX]`: reads a CBOR sequence from standard input,
 //! and writes the records of all questions that the gate asks about it to standard output. AADHEX
-//! is the external data in hex. `cose-ask --keys KEYS [--strict] [AADHEX]`: writes a block for each
-//! item, with the questions that the rules allow under the keys of the file KEYS.
+//! is the external data in hex. `cose-ask --keys KEYS [--strict] [AADHEX] [--cwt TERMS]`: writes a
+//! block for each item, with the questions that the rules allow under the keys of the file KEYS,
+//! and with `--cwt` of tokens that pass by TERMS.
 #![tactic(auto)]
 
 use ciborium_ll::Io;
@@ -16,7 +17,7 @@ use std::{env, fs};
 /// The line for other arguments.
 const USAGE: &str = "\
 usage: cose-ask [--strict] [--lines] [--fields] [AADHEX]
-       cose-ask --keys KEYS [--strict] [AADHEX]
+       cose-ask --keys KEYS [--strict] [AADHEX] [--cwt TERMS]
 ";
 
 /// What `--version` prints.
@@ -25,7 +26,7 @@ const VERSION: &str = "cose-ask 0.8\n";
 /// What `-h` and `--help` print. The script `cose-ask` prints the same.
 const HELP: &str = "\
 usage: cose-ask [--strict] [--lines] [--fields] [AADHEX] < INPUT > QUESTIONS
-       cose-ask --keys KEYS [--strict] [AADHEX] < INPUT > BLOCKS
+       cose-ask --keys KEYS [--strict] [AADHEX] [--cwt TERMS] < INPUT > BLOCKS
 Reads a CBOR sequence, and writes a record for each signature and MAC that has to
 be checked. Check them, and give the records of the good ones to cose-pass.
 AADHEX: the external data in hex, empty if it is left out.
@@ -42,6 +43,12 @@ AADHEX: the external data in hex, empty if it is left out.
             the rules for headers and keys: see cose-ask(1). KEYS: a file with a
             COSE_KeySet. Check the signatures under the keys that a block names,
             and give the digests of good ones to cose-pass --digests.
+  --cwt     (at the end) a block has nothing to check if the payload isn't a claims
+            set that passes by TERMS, which have this order:
+            --at SECONDS [--leeway SECONDS] [--iss ISS] [--aud AUD | --any-aud]
+            [--need CLAIM..]
+            SECONDS are since 1970. CLAIM is iss, sub, aud, exp, nbf, iat or cti,
+            or a claim whose label is this text.
   --strict  refuse messages that are not in canonical encoding
 Standard error has a line for each item, as if every signature were good.
 Status 0: no item was refused. 1: some were. 2: wrong arguments, or AADHEX is not

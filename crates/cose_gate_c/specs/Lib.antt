@@ -1,4 +1,6 @@
 pub mod Keeping
+pub mod KeyParts
 pub mod Places
+pub mod RuledAsking
 pub mod StreamAsking
 pub mod Streaming

@@ -1,21 +1,27 @@
 //! The gate for C, and for languages that call C: over buffers that the caller owns. Each function
-//! calls one of `cose_gate_records`, and the last two the modules `streaming` and `stream_asking`.
+//! calls one of `cose_gate_records`, or of a module here.
 //! `include/cose_gate.h` declares them.
 #![tactic(auto)]
 
 ghost use Rattle.std.specs.Prelude.{◌≡◌};
+ghost use Rattle.cose_gate_c.specs.KeyParts.{ListsKeys};
+ghost use Rattle.cose_gate_c.specs.RuledAsking.{AsksRuled};
 ghost use Rattle.cose_gate_c.specs.StreamAsking.{StreamAsks};
 ghost use Rattle.cose_gate_c.specs.Streaming.{StreamChecks};
-ghost use Rattle.cose_gate_records.specs.Calls.{Asks, Checks, Passes, buffers};
+ghost use Rattle.cose_gate_records.specs.Calls.{Asks, Checks, Passes, PassesDigests, buffers};
 
 mod keeping;
+mod key_parts;
 mod question_writing;
+mod ruled_asking;
 mod stream_asking;
 mod streaming;
 
+use crate::key_parts::list_keys;
+use crate::ruled_asking::ask_items;
 use crate::stream_asking::{StreamQuestion, ask_message};
 use crate::streaming::{StreamAnswer, check_message};
-use cose_gate_records::{Answer, Choice, ask, check, pass};
+use cose_gate_records::{Answer, Choice, ask, check, pass, pass_digests};
 use std::alloc::Global;
 
 /// `check` of `cose_gate_records`: the run of `cose-gate` over `input`.
@@ -88,6 +94,69 @@ pub extern "C" fn cose_gate_pass(
         strict,
     };
     pass(alloc, choice, accepted, aad, input, out, lines)
+}
+
+/// What to check of each item of `input` by the rules of `cose_rules`, under the key set of the
+/// bytes `keys`: the blocks of `cose-ask --keys`. `lines` takes the lines of a run in which every
+/// signature is good that the rules allow to be checked.
+#[unsafe(no_mangle)]
+pub extern "C" fn cose_gate_ask_ruled(
+    alloc: Global,
+    keys: &[u8],
+    aad: &[u8],
+    input: &[u8],
+    blocks: &mut [u8],
+    lines: &mut [u8],
+    nesting: usize,
+    layers: usize,
+    strict: bool,
+) -> Answer
+    ensures { AsksRuled nesting layers strict keys.now aad.now input.now
+        (buffers «blocks».old «lines».old) (buffers «blocks».new «lines».new) result }
+{
+    let choice = Choice {
+        nesting,
+        layers,
+        strict,
+    };
+    ask_items(alloc, choice, keys, aad, input, blocks, lines)
+}
+
+/// `pass_digests` of `cose_gate_records`: the messages of `input` all of whose questions' digests
+/// are among `accepted`.
+#[unsafe(no_mangle)]
+pub extern "C" fn cose_gate_pass_digests(
+    alloc: Global,
+    accepted: &[u8],
+    aad: &[u8],
+    input: &[u8],
+    out: &mut [u8],
+    lines: &mut [u8],
+    nesting: usize,
+    layers: usize,
+    strict: bool,
+) -> Answer
+    ensures { PassesDigests nesting layers strict accepted.now aad.now input.now
+        (buffers «out».old «lines».old) (buffers «out».new «lines».new) result }
+{
+    let choice = Choice {
+        nesting,
+        layers,
+        strict,
+    };
+    pass_digests(alloc, choice, accepted, aad, input, out, lines)
+}
+
+/// The parts of the keys of the set that the bytes `keys` are, in order: of each the byte strings
+/// under -1 (n or k), -2 (x or e) and -3 (y), after their lengths, empty if there is none.
+///
+/// The status is 0; 3 if the bytes are no key set; 4 if it is out of memory; and 5 if this is
+/// longer than `parts`, and only then: that stays as it was, and `length` is the length it needs.
+#[unsafe(no_mangle)]
+pub extern "C" fn cose_gate_key_parts(alloc: Global, keys: &[u8], parts: &mut [u8]) -> Answer
+    ensures { ListsKeys keys.now «parts».old «parts».new result }
+{
+    list_keys(alloc, keys, parts)
 }
 
 /// The streaming check of the COSE_Mac0 at the front of `message`, which is read in place, and

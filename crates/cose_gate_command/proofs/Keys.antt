@@ -1,6 +1,6 @@
 -- Keys are read in one way.
-use Rattle.std.proofs.Common.{◌≡◌, ℕ, suc, ◌<◌, ◌+◌, ◌^◌, List, [], ◌∷◌, ◌++◌, ◌==◌, Bool, true, false, Option, Some, None, MatchOption, length, take, drop, flat_map, refl, sym, ap, ◌∙◌, lit<, arith, length-append}
-use Rattle.std.proofs.lemmas.List.{append-nil, nil_from_length, take-append-drop}
+use Rattle.std.proofs.Common.{◌≡◌, ℕ, suc, ◌<◌, ◌+◌, ◌^◌, List, [], ◌∷◌, ◌++◌, ◌==◌, Bool, true, false, Option, Some, None, MatchOption, length, flat_map, refl, sym, ap, ◌∙◌, lit<, arith, length-append}
+use Rattle.std.proofs.lemmas.List.{append-nil, nil_from_length}
 use Rattle.std.proofs.lemmas.Bool.Decides.{nat_tests}
 use Rattle.cose_gate_records.specs.Framing.{eight, framed}
 use Rattle.cose_gate_command.specs.Lines.{texts_in}
@@ -10,19 +10,7 @@ use Rattle.cose_gate_records.specs.Records.{key_of, texts_of}
 use Rattle.cose_gate_core.specs.declared.about.MessageKind.{MessageKind}
 use Rattle.cose_gate_core.specs.declared.about.MessageKind.TheVariants as kind
 use Rattle.cose_gate_core.proofs.TagNumbers.{same_kind}
-use Rattle.cose_gate_records.proofs.Frames.{length-eight, same_frames, same_numbered, same_pieces, length-framed, assoc_six}
-
--- fewer than eight bytes begin with no number
-pub no_number : (bytes r : List ℕ) (n : ℕ) → length bytes < 8 → bytes ≡ eight n ++ r → ⊥
-no_number bytes r n h e =
-    let l : length bytes ≡ 8 + length r
-    = ap (λ (b : List ℕ). length b) e ∙ (length-append (eight n) r ∙ ap (λ (k : ℕ). k + length r) (length-eight n)) in
-    omega (arith, l, h)
-
--- the number that the first eight bytes are
-pub number_is : (bytes head rest : List ℕ) (n : ℕ) → head ≡ take 8 bytes → rest ≡ drop 8 bytes → eight n ≡ head → bytes ≡ eight n ++ rest
-number_is bytes head rest n hd rs is =
-    sym (take-append-drop 8 bytes) ∙ (ap (λ (z : List ℕ). z ++ drop 8 bytes) (sym (is ∙ hd)) ∙ ap (λ (z : List ℕ). eight n ++ z) (sym rs))
+use Rattle.cose_gate_records.proofs.Frames.{same_frames, same_numbered, same_pieces, length-framed, assoc_six}
 
 kind_below : (k : MessageKind) → number_of k < 2 ^ 64
 kind_below kind.Sign1 = lit< tt

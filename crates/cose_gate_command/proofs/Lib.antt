@@ -1,5 +1,6 @@
 pub mod AcceptedLines
 pub mod Arriving
+pub mod Cwt
 pub mod Endings
 pub mod Ends
 pub mod HexDigits
@@ -9,3 +10,4 @@ pub mod KeyReasons
 pub mod RecordLine
 pub mod RunLines
 pub mod Sending
+pub mod Terms

@@ -1,6 +1,9 @@
 -- The arguments of the command lines.
-use Rattle.std.specs.Prelude.{◌&&◌, ◌||◌, ℕ, List, [], ◌∷◌, Option, None, Some, option_map, option_and_then, option_copied, Bool, true, false, if◌then◌else◌, not, nat_eq, bytes_eq, codes, filter}
+use Rattle.std.specs.Prelude.{◌&&◌, ◌||◌, ℕ, List, [], ◌∷◌, Option, None, Some, option_map, option_and_then, option_copied, Bool, true, false, if◌then◌else◌, not, nat_eq, bytes_eq, codes, filter, ◌+◌, take, drop}
+use Rattle.std.specs.List.{position}
+use Rattle.cose_rules.specs.Claims.{TermsFields}
 use Rattle.cose_gate_program.specs.Words.{words}
+use Rattle.cose_gate_command.specs.TokenArguments.{token_arguments, token_view}
 use Rattle.cose_gate_command.specs.declared.arguments.Arguments.{Arguments as Held}
 use Rattle.cose_gate_command.specs.declared.options.AskArguments.{AskArguments as HeldAsk}
 use Rattle.cose_gate_command.specs.declared.options.PassArguments.{PassArguments as HeldPass}
@@ -58,25 +61,28 @@ arguments ws =
     else None
 
 -- what the arguments of cose-ask ask for: [--strict] [--lines] [--fields] [AADHEX], or
--- --keys KEYS [--strict] [AADHEX]
+-- --keys KEYS [--strict] [AADHEX], and then --cwt with what it asks of tokens, if it is there
 pub record AskArguments : Type 0 where
   pub keys : Option (List ℕ)
+  pub token : Option TermsFields
   pub strict : Bool
   pub lines : Bool
   pub fields : Bool
   pub aad : Option (List ℕ)
 
-abbrev pub of_aad : Option (List ℕ) → Bool → Bool → Bool → List (List ℕ) → Option AskArguments
-of_aad k s l f [] = Some (record { keys = k; strict = s; lines = l; fields = f; aad = None })
-of_aad k s l f (aad ∷ []) =
-    Some (record { keys = k; strict = s; lines = l; fields = f; aad = Some aad })
-of_aad k s l f (aad ∷ more ∷ ws) = None
+abbrev pub of_aad : Option (List ℕ) → Option TermsFields → Bool → Bool → Bool → List (List ℕ)
+    → Option AskArguments
+of_aad k t s l f [] =
+    Some (record { keys = k; token = t; strict = s; lines = l; fields = f; aad = None })
+of_aad k t s l f (aad ∷ []) =
+    Some (record { keys = k; token = t; strict = s; lines = l; fields = f; aad = Some aad })
+of_aad k t s l f (aad ∷ more ∷ ws) = None
 
--- the arguments without --keys, or those after KEYS
-abbrev pub with_keys : Option (List ℕ) → List (List ℕ) → Option AskArguments
-with_keys keys ws =
+-- the arguments without --keys, or those after KEYS and before --cwt
+abbrev pub with_keys : Option (List ℕ) → Option TermsFields → List (List ℕ) → Option AskArguments
+with_keys keys token ws =
     if are_known asks ws
-    then of_aad keys (has (codes "--strict") ws) (has (codes "--lines") ws)
+    then of_aad keys token (has (codes "--strict") ws) (has (codes "--lines") ws)
     (has (codes "--fields") ws)
     (filter (λ w. not (is_option w)) ws)
     else None
@@ -85,15 +91,24 @@ with_keys keys ws =
 abbrev pub if_formless : AskArguments → Option AskArguments
 if_formless a = if a.lines || a.fields then None else Some a
 
+abbrev pub formless : List ℕ → Option TermsFields → List (List ℕ) → Option AskArguments
+formless keys token ws = option_and_then if_formless (with_keys (Some keys) token ws)
+
+-- the words before the place of --cwt, and the terms after it
+abbrev pub with_cwt : List ℕ → List (List ℕ) → Option ℕ → Option AskArguments
+with_cwt keys ws None = formless keys None ws
+with_cwt keys ws (Some n) =
+    option_and_then (λ t. formless keys (Some t) (take n ws)) (token_arguments (drop (n + 1) ws))
+
 abbrev pub with_file : List (List ℕ) → Option AskArguments
 with_file [] = None
-with_file (keys ∷ ws) = option_and_then if_formless (with_keys (Some keys) ws)
+with_file (keys ∷ ws) = with_cwt keys ws (position (λ w. bytes_eq w (codes "--cwt")) ws)
 
 -- --keys comes first, if it is there, and then KEYS
 abbrev pub ask_arguments : List (List ℕ) → Option AskArguments
-ask_arguments [] = with_keys None []
+ask_arguments [] = with_keys None None []
 ask_arguments (w ∷ ws) =
-    if bytes_eq w (codes "--keys") then with_file ws else with_keys None (w ∷ ws)
+    if bytes_eq w (codes "--keys") then with_file ws else with_keys None None (w ∷ ws)
 
 -- what the arguments of cose-pass ask for: [--digests] [--strict] ACCEPTED [AADHEX]
 pub record PassArguments : Type 0 where
@@ -121,6 +136,7 @@ pass_arguments (w ∷ ws) =
 abbrev pub ask_view : HeldAsk → AskArguments
 ask_view a = record {
   keys = option_copied a.keys;
+  token = option_map token_view a.token;
   strict = a.strict;
   lines = a.lines;
   fields = a.fields;

@@ -7,6 +7,7 @@ use Rattle.ciborium_ll.specs.declared.write.Write.{Ghosts as Writes}
 use Rattle.coset_labels.specs.Reading.{HasItem}
 use Rattle.coset_keys.specs.Fields.{KeyFields}
 use Rattle.coset_keys.specs.Keys.{HasKeySet}
+use Rattle.cose_rules.specs.Claims.{TermsFields}
 use Rattle.cose_gate_core.specs.Findings.{Bounds}
 use Rattle.cose_gate_core.specs.Questions.{Question}
 use Rattle.cose_gate_program.specs.Beginning as begin
@@ -115,21 +116,22 @@ Asked w e limits form aad old new out out' err err' result = (status : ℕ)
 abbrev pub with_failures : {W F : Type 0} → Writes W F → W → Devices → Devices
 with_failures w out d = record d { write_failures = w.failed out }
 
--- how cose-ask --keys ends with what KEYS holds, which can't be read for this fault if it holds
--- nothing, and the external data: the gate asked by the rules under the keys of KEYS, its blocks are
--- handed out, and its lines written; or the run doesn't begin, as that of cose-gate, and nothing was
--- read or handed out
+-- how cose-ask --keys ends with what tokens it takes, what KEYS holds, which can't be read for this
+-- fault if it holds nothing, and the external data: the gate asked by the rules under the keys of
+-- KEYS, its blocks are handed out, and its lines written; or the run doesn't begin, as that of
+-- cose-gate, and nothing was read or handed out
 pub data AsksByRules {W F E G : Type 0} (w : Writes W F) (e : Writes E G) (limits : Bounds)
-    (keys : Option (List ℕ)) (fault : List ℕ) (aad : Option (List ℕ)) (old new : Devices)
+    (token : Option TermsFields) (keys : Option (List ℕ)) (fault : List ℕ) (aad : Option (List ℕ))
+    (old new : Devices)
     (out out' : W) (err err' : E) (status : ℕ) : Type 0 where
   not_begun : (why : Unbegun) → BeginsNot keys aad why → status ≡ begin.status_of why → new ≡ old
       → out' ≡ out → Says e false false fault keys err err' (notice.NotBegun why ∷ [])
-      → AsksByRules w e limits keys fault aad old new out out' err err' status
+      → AsksByRules w e limits token keys fault aad old new out out' err err' status
   after_run : (b d : List ℕ) → keys ≡ Some b → aad ≡ Some d
       → (ks : List KeyFields) → HasItem HasKeySet b ks
-      → RanAsking w limits ks d (with_failures w out old) (with_failures w out' new) out out' status
-      (writes e err err')
-      → AsksByRules w e limits keys fault aad old new out out' err err' status
+      → RanAsking w limits token ks d (with_failures w out old) (with_failures w out' new) out out'
+      status (writes e err err')
+      → AsksByRules w e limits token keys fault aad old new out out' err err' status
 
 -- how cose-ask ends with these arguments, and what KEYS holds if they name it: that, with --keys or
 -- without; or it isn't run, and nothing was read, written or told
@@ -144,8 +146,8 @@ pub data Asks {W F E G : Type 0} (w : Writes W F) (e : Writes E G) (a : Option A
       → Asks w e a keys fault old new out out' err err' result
   by_rules : (b : AskArguments) → a ≡ Some b → (name : List ℕ) → b.keys ≡ Some name
       → (status : ℕ) → result ≡ Ok status
-      → AsksByRules w e (bounds_by b.strict) keys fault (aad_of b.aad) old new out out' err err'
-      status
+      → AsksByRules w e (bounds_by b.strict) b.token keys fault (aad_of b.aad) old new out out'
+      err err' status
       → Asks w e a keys fault old new out out' err err' result
 
 -- a run with these arguments went through its input: with --keys that of status 0 or 1

@@ -11,5 +11,6 @@ pub mod Passing
 pub mod Read
 pub mod RunLines
 pub mod Starting
+pub mod TokenArguments
 pub mod Waiting
 pub mod Written

@@ -1,6 +1,7 @@
 -- What the arguments are after some of their words.
 use Rattle.std.specs.Prelude.{ℕ, List, [], ◌∷◌, ◌++◌, Option, Some, None, if◌then◌else◌, ◌||◌, not, codes, filter, option_copied, option_map}
 use Rattle.cose_gate_command.specs.Arguments.{Arguments, AskArguments, is_option, has, are_known, gates, asks, of_files, of_aad}
+use Rattle.cose_gate_command.specs.TokenArguments.{token_view}
 use Rattle.cose_gate_command.specs.declared.arguments.Words.{Words}
 use Rattle.cose_gate_command.specs.declared.options.AskArguments.{AskArguments as HeldAsk}
 
@@ -27,7 +28,8 @@ aads_of (Some aad) = aad ∷ []
 abbrev pub asks_after : HeldAsk → List (List ℕ) → Option AskArguments
 asks_after a ws =
     if are_known asks ws
-    then of_aad (option_copied a.keys) (a.strict || has (codes "--strict") ws)
+    then of_aad (option_copied a.keys) (option_map token_view a.token)
+    (a.strict || has (codes "--strict") ws)
     (a.lines || has (codes "--lines") ws)
     (a.fields || has (codes "--fields") ws)
     (aads_of (option_copied a.aad) ++ filter (λ w. not (is_option w)) ws)

@@ -11,7 +11,6 @@ mod counted;
 mod ending;
 mod explained;
 mod fields;
-mod framing;
 mod key_file;
 mod line_writer;
 mod lines;
@@ -23,6 +22,7 @@ mod passing;
 mod question;
 mod question_writer;
 mod starting;
+mod tokens;
 mod verbose;
 
 pub use crate::arguments::{Arguments, read_arguments};
@@ -37,3 +37,4 @@ pub use crate::passing::pass;
 pub use crate::starting::{
     Content, ended, page_for, read_in_blocks, words_of, write_in_blocks, write_page,
 };
+pub use crate::tokens::TokenArguments;

@@ -1,6 +1,9 @@
 //! The arguments of `cose-ask` and `cose-pass`, and what a run goes by.
 ghost use Rattle.std.specs.Prelude.{◌≡◌, ℕ, List, ◌∷◌, None, MatchResult, if◌then◌else◌};
-ghost use Rattle.std.specs.Prelude.{map, option_map, option_copied, string_bytes, Some};
+ghost use Rattle.std.specs.Prelude.{map, option_map, option_copied, string_bytes, Some, bytes_eq};
+ghost use Rattle.std.specs.Prelude.{codes};
+ghost use Rattle.std.specs.Prelude.{◌<◌, IfSome, length};
+ghost use Rattle.std.specs.List.{position};
 ghost use Rattle.cose_gate_core.specs.Terms.{limits_of};
 ghost use Rattle.cose_gate_program.specs.Beginning.{aad_of};
 ghost use Rattle.cose_gate_command.specs.Arguments as spec;
@@ -9,18 +12,22 @@ ghost use Rattle.cose_gate_command.specs.Asking.{IsNoAad};
 ghost use Rattle.cose_gate_command.specs.Ends.{bounds_by};
 ghost use Rattle.cose_gate_command.specs.Lines.{form_of};
 ghost use Rattle.cose_gate_command.specs.Options.{asks_after};
+ghost use Rattle.cose_gate_command.specs.TokenArguments.{token_view};
 
 use crate::arguments::{is_option, read_arguments};
 use crate::not_run::NotRun;
+use crate::tokens::{TokenArguments, token_arguments};
 use cose_gate_program::{Limits, Terms};
 use hex::FromHexError;
 use std::alloc::Global;
 
 /// The arguments of `cose-ask`.
-#[derive(Debug, Clone, Copy, PartialEq, Eq)]
+#[derive(Clone, Copy)]
 pub struct AskArguments<'a> {
     /// The file with the key set, if it asks by the rules.
     pub keys: Option<&'a str>,
+    /// Which tokens pass, if items have to be tokens.
+    pub token: Option<TokenArguments<'a>>,
     /// Only messages in canonical encoding pass.
     pub strict: bool,
     /// The questions are written as lines of text.
@@ -88,8 +95,9 @@ impl<'a> AskArguments<'a> {
     }
 }
 
-/// The arguments `[--strict] [--lines] [--fields] [AADHEX]`, or `--keys KEYS [--strict] [AADHEX]`;
-/// `None` if they are others. `--keys` comes first, other options may be before and after AADHEX.
+/// The arguments `[--strict] [--lines] [--fields] [AADHEX]`, or `--keys KEYS [--strict] [AADHEX]`
+/// and then `--cwt` with its own; `None` if they are others. `--keys` comes first, `--cwt` with its
+/// own last, and other options may be before and after AADHEX.
 pub fn ask_arguments(all: &[String]) -> Option<AskArguments<'_>>
     ensures { option_map ask_view result ≡ spec.ask_arguments (map string_bytes all.now) }
 {
@@ -98,28 +106,81 @@ pub fn ask_arguments(all: &[String]) -> Option<AskArguments<'_>>
     {
         return with_file(rest);
     }
-    with_keys(None, all)
+    with_keys(None, None, all)
 }
 
-/// The arguments after `--keys`: KEYS, and others without a form of questions.
+fn first_cwt(words: &[String]) -> Option<usize>
+    ensures place { result ≡ position (λ w. bytes_eq (string_bytes w) (codes "--cwt")) words.now }
+    ensures within { IfSome result (λ n. n < length words.now) }
+{
+    words.iter().position(|word| word.as_str() == "--cwt")
+}
+
+/// The place of `--cwt`.
+fn place_of_cwt(words: &[String]) -> Option<usize>
+    ensures place { result
+        ≡ position (λ w. bytes_eq w (codes "--cwt")) (map string_bytes words.now) }
+    ensures within { IfSome result (λ n. n < length words.now) }
+{
+    first_cwt(words)
+}
+
+/// The arguments after `--keys`: KEYS, others without a form of questions, and which tokens pass.
 fn with_file(words: &[String]) -> Option<AskArguments<'_>>
     ensures { option_map ask_view result ≡ spec.with_file (map string_bytes words.now) }
 {
     let (keys, rest) = words.split_first()?;
-    let asked = with_keys(Some(keys.as_str()), rest)?;
+    with_cwt(keys.as_str(), rest, place_of_cwt(rest))
+}
+
+/// The arguments after KEYS, with `--cwt` at this place.
+fn with_cwt<'a>(
+    keys: &'a str,
+    words: &'a [String],
+    place: Option<usize>,
+) -> Option<AskArguments<'a>>
+    requires { IfSome place (λ n. n < length words.now) }
+    ensures { option_map ask_view result
+        ≡ spec.with_cwt keys.now (map string_bytes words.now) place }
+{
+    match place {
+        Some(place) => {
+            let token = token_arguments(&words[place + 1..])?;
+            formless(keys, Some(token), &words[..place])
+        }
+        None => formless(keys, None, words),
+    }
+}
+
+/// The arguments after KEYS, without a form of questions.
+fn formless<'a>(
+    keys: &'a str,
+    token: Option<TokenArguments<'a>>,
+    words: &'a [String],
+) -> Option<AskArguments<'a>>
+    ensures { option_map ask_view result
+        ≡ spec.formless keys.now (option_map token_view token.entry) (map string_bytes words.now) }
+{
+    let asked = with_keys(Some(keys), token, words)?;
     if asked.lines || asked.fields {
         return None;
     }
     Some(asked)
 }
 
-/// The arguments without `--keys`, or those after KEYS.
-fn with_keys<'a>(keys: Option<&'a str>, words: &'a [String]) -> Option<AskArguments<'a>>
+/// The arguments without `--keys`, or those after KEYS and before `--cwt`.
+fn with_keys<'a>(
+    keys: Option<&'a str>,
+    token: Option<TokenArguments<'a>>,
+    words: &'a [String],
+) -> Option<AskArguments<'a>>
     ensures { option_map ask_view result
-        ≡ spec.with_keys (option_copied keys.entry) (map string_bytes words.now) }
+        ≡ spec.with_keys (option_copied keys.entry) (option_map token_view token.entry)
+        (map string_bytes words.now) }
 {
     let mut asked = AskArguments {
         keys,
+        token,
         strict: false,
         lines: false,
         fields: false,

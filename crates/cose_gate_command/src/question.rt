@@ -5,9 +5,8 @@ ghost use Rattle.cose_gate_core.specs.Questions.{number_of};
 ghost use Rattle.cose_gate_core.specs.declared.about.MessageKind.{MessageKind};
 ghost use Rattle.cose_gate_records.specs.Framing.{framed};
 
-use crate::framing::split_number;
 use cose_gate_core::MessageKind;
-use cose_gate_records::split_first;
+use cose_gate_records::{split_first, split_number};
 
 /// A question, as its record shows it.
 #[derive(Debug, Clone, Copy, PartialEq, Eq)]

@@ -1,8 +1,10 @@
 //! The gate.
 ghost use Rattle.std.specs.Prelude.{◌≡◌, ◌≢◌, ◌+◌, ◌<◌, ◌^◌, [], Some, None, Ok, Err};
 ghost use Rattle.std.specs.Prelude.{◌≤◌, ◌⊎◌, IfOk, IfErr, IfSome, OnOk, true, false, not};
-ghost use Rattle.std.specs.Prelude.{if◌then◌else◌};
+ghost use Rattle.std.specs.Prelude.{if◌then◌else◌, length, List, ℕ};
+ghost use Rattle.std.specs.Io.{StartsWith};
 ghost use Rattle.std.specs.Io.KnownBytes.{Keeps};
+ghost use Rattle.cbor_walk.specs.Walking.{BeginsItem};
 ghost use Rattle.ciborium.specs.Damage.{Damage};
 ghost use Rattle.ciborium.specs.Front.{HoldsOne};
 ghost use Rattle.ciborium.specs.Fronts.{IsFront, IsMessage};
@@ -29,7 +31,7 @@ use crate::message::Four;
 use crate::passing::{ItemFault, pass, pass_read};
 use crate::report::{Entry, Report, Verdict};
 use crate::terms::Terms;
-use crate::whole::is_whole;
+use cbor_walk::begins_item;
 use ciborium::{Front, Spare, Value, de, read_front};
 use ciborium_ll::{Decoder, Read, Write};
 use coset_labels::TaggedCborSerializable;
@@ -439,12 +441,24 @@ pub fn gate_next<R: Read, W: Write, P: Report, J: Judge>(
     Ok(Some(counts))
 }
 
+/// If so many bytes are at hand, or more, the next item isn't looked at.
+const MANY: usize = 4096;
+
+/// Whether the bytes at hand hold the whole item that they begin with, or are many. The answer may
+/// be no though they do, if it has strings, arrays or maps of open length.
+fn is_whole(alloc: Global, held: &[u8]) -> bool
+    ensures { result ≡ true → (4096 ≤ length held.now) ⊎ BeginsItem held.now }
+{
+    held.len() >= MANY || begins_item(alloc, held)
+}
+
 /// If the gate is live, hands on what passed, and then what is noted of it, unless the next item is
 /// at hand as a whole.
 ///
 /// # Errors
 /// `Write` if the output can't be flushed. The report holds back what it held then.
 fn hand_over<R: Read, W: Write, P: Report>(
+    alloc: Global,
     live: bool,
     decoder: &Decoder<R>,
     out: &mut W,
@@ -455,8 +469,14 @@ fn hand_over<R: Read, W: Write, P: Report>(
     ensures lent { W.handle out.new ≡ W.handle out.old }
     ensures noted { P.state report.new ≡ P.state report.old }
     ensures stops { IfErr result (λ fault. (fault ≡ Write) × (live ≡ true)) }
+    ensures handed { live ≡ true → OnOk result ((W.held out.new ≡ []) ⊎ ((b : List ℕ)
+        × ((4096 ≤ length b) ⊎ BeginsItem b)
+        × IfSome (left_of R.left decoder.now) (λ xs. StartsWith xs b))) }
 {
-    if !live || is_whole(decoder.held()) {
+    if !live {
+        return Ok(());
+    }
+    if is_whole(alloc, decoder.held()) {
         return Ok(());
     }
     if out.flush().is_err() {
@@ -535,6 +555,6 @@ pub fn gate_by<R: Read, W: Write, P: Report, J: Judge>(
             return Ok(counts);
         };
         counts = next;
-        hand_over(live, decoder, out, report)?;
+        hand_over(alloc, live, decoder, out, report)?;
     }
 }

@@ -19,7 +19,6 @@ mod runs;
 mod sign;
 mod sign1;
 mod terms;
-mod whole;
 mod writing;
 
 pub use crate::about::{About, MessageKind};

@@ -1,9 +1,9 @@
 -- Framed bytes are split in one way.
-use Rattle.std.proofs.Common.{◌≡◌, ℕ, ◌<◌, ◌≤◌, ◌+◌, ◌^◌, List, [], ◌∷◌, ◌++◌, length, take, drop, get_or, flat_map, refl, sym, ap, ◌∙◌, arith, append_assoc, length-append}
+use Rattle.std.proofs.Common.{◌≡◌, ℕ, ◌<◌, ◌+◌, ◌^◌, List, [], ◌∷◌, ◌++◌, length, take, drop, get_or, flat_map, refl, sym, ap, ◌∙◌, arith, append_assoc, length-append}
 use Rattle.std.specs.Int.{w64, to_le_bytes, from_le_bytes}
 use Rattle.std.proofs.lemmas.Nat.{le_bytes_8, from_le_bytes-to_le_bytes_8}
 use Rattle.std.proofs.lemmas.List.{append_cancel_left, append-nil, take-append-drop}
-use Rattle.std.proofs.Math.Seq.{take-append_seam, drop-append_seam}
+use Rattle.std.proofs.Math.Seq.{take-append_seam}
 use Rattle.cose_gate_records.specs.Framing.{eight, framed, key_by}
 
 -- the bytes of a number
@@ -68,39 +68,39 @@ no_frames (d ∷ done) bytes rest h some none e (a ∷ all) e' =
     (omega (arith, l, h)) (omega (arith, k, h)) (sym one ∙ e') in
     no_frames done (flat_map framed done ++ rest) rest (omega (arith, l, h)) some none refl all w.1
 
--- bytes too few for a frame begin with none; nor do those after which fewer come than their length
--- says
-pub too_few : (bytes p r : List ℕ) → length bytes < 8 → bytes ≡ framed p ++ r → ⊥
-too_few bytes p r h e =
-    let l : length bytes ≡ (8 + length p) + length r
-    = ap (λ (b : List ℕ). length b) e ∙ (length-append (framed p) r ∙ ap (λ (n : ℕ). n + length r) (length-framed p)) in
+-- a number and bytes
+pub same_numbered : (m n : ℕ) (x y : List ℕ) → m < 2 ^ 64 → n < 2 ^ 64 → eight m ++ x ≡ eight n ++ y → (m ≡ n) × (x ≡ y)
+same_numbered m n x y hm hn e =
+    let heads : eight m ≡ eight n = fronts (eight m) (eight n) x y (length-eight m ∙ sym (length-eight n)) e in
+    (same_eights m n hm hn heads, behinds (eight m) (eight n) x y heads e)
+
+-- fewer than eight bytes begin with no number
+pub no_number : (bytes r : List ℕ) (n : ℕ) → length bytes < 8 → bytes ≡ eight n ++ r → ⊥
+no_number bytes r n h e =
+    let l : length bytes ≡ 8 + length r
+    = ap (λ (b : List ℕ). length b) e ∙ (length-append (eight n) r ∙ ap (λ (k : ℕ). k + length r) (length-eight n)) in
     omega (arith, l, h)
 
-pub cut_short : (bytes head rest p r : List ℕ) (n : ℕ) → length bytes < 2 ^ 64 → n < 2 ^ 64 → head ≡ take 8 bytes → rest ≡ drop 8 bytes
-    → eight n ≡ head → length rest < n → bytes ≡ framed p ++ r → ⊥
-cut_short bytes head rest p r n h hn hd rs is few e =
-    let e1 : bytes ≡ eight (length p) ++ (p ++ r) = e ∙ append_assoc (eight (length p)) p r in
-    let n8 : length (eight (length p)) ≡ 8 = length-eight (length p) in
-    let hd1 : head ≡ eight (length p)
-    = hd ∙ (ap (λ (b : List ℕ). take 8 b) e1 ∙ (ap (λ (k : ℕ). take k (eight (length p) ++ (p ++ r))) (sym n8) ∙ take-append_seam (eight (length p)) (p ++ r))) in
-    let rs1 : rest ≡ p ++ r
-    = rs ∙ (ap (λ (b : List ℕ). drop 8 b) e1 ∙ (ap (λ (k : ℕ). drop k (eight (length p) ++ (p ++ r))) (sym n8) ∙ drop-append_seam (eight (length p)) (p ++ r))) in
+-- the number that the first eight bytes are
+pub number_is : (bytes head rest : List ℕ) (n : ℕ) → head ≡ take 8 bytes → rest ≡ drop 8 bytes → eight n ≡ head → bytes ≡ eight n ++ rest
+number_is bytes head rest n hd rs is =
+    sym (take-append-drop 8 bytes) ∙ (ap (λ (z : List ℕ). z ++ drop 8 bytes) (sym (is ∙ hd)) ∙ ap (λ (z : List ℕ). eight n ++ z) (sym rs))
+
+-- bytes begin with no frame if fewer come after a number than it says
+pub cut_short : (bytes rest p r : List ℕ) (n : ℕ) → length bytes < 2 ^ 64 → n < 2 ^ 64 → bytes ≡ eight n ++ rest → length rest < n → bytes ≡ framed p ++ r → ⊥
+cut_short bytes rest p r n h hn is few e =
     let l : length bytes ≡ (8 + length p) + length r
     = ap (λ (b : List ℕ). length b) e ∙ (length-append (framed p) r ∙ ap (λ (k : ℕ). k + length r) (length-framed p)) in
-    let m : n ≡ length p = same_eights n (length p) hn (omega (arith, l, h)) (is ∙ hd1) in
-    let k : length rest ≡ length p + length r = ap (λ (b : List ℕ). length b) rs1 ∙ length-append p r in
-    omega (arith, m, k, few)
+    let w = same_numbered n (length p) rest (p ++ r) hn (omega (arith, l, h)) (sym is ∙ e ∙ append_assoc (eight (length p)) p r) in
+    let k : length rest ≡ length p + length r = ap (λ (b : List ℕ). length b) w.1 ∙ length-append p r in
+    omega (arith, w.0, k, few)
 
 -- a frame that is there
-pub frame_is : (bytes head rest piece more : List ℕ) (n : ℕ) → head ≡ take 8 bytes → rest ≡ drop 8 bytes → eight n ≡ head
-    → length piece ≡ n → piece ≡ take n rest → more ≡ drop n rest → bytes ≡ framed piece ++ more
-frame_is bytes head rest piece more n hd rs is lp tk dr =
-    let whole : piece ++ more ≡ rest
-    = ap (λ (z : List ℕ). z ++ more) tk ∙ (ap (λ (z : List ℕ). take n rest ++ z) dr ∙ take-append-drop n rest) in
-    let all : head ++ rest ≡ bytes
-    = ap (λ (z : List ℕ). z ++ rest) hd ∙ (ap (λ (z : List ℕ). take 8 bytes ++ z) rs ∙ take-append-drop 8 bytes) in
-    let h : eight (length piece) ≡ head = ap (λ (k : ℕ). eight k) lp ∙ is in
-    sym all ∙ (ap (λ (z : List ℕ). head ++ z) (sym whole) ∙ (ap (λ (z : List ℕ). z ++ (piece ++ more)) (sym h) ∙ sym (append_assoc (eight (length piece)) piece more)))
+pub frame_is : (bytes rest piece more : List ℕ) (n : ℕ) → bytes ≡ eight n ++ rest → length piece ≡ n → piece ≡ take n rest → more ≡ drop n rest → bytes ≡ framed piece ++ more
+frame_is bytes rest piece more n is lp tk dr =
+    let whole : rest ≡ piece ++ more
+    = sym (take-append-drop n rest) ∙ (ap (λ (z : List ℕ). z ++ drop n rest) (sym tk) ∙ ap (λ (z : List ℕ). piece ++ z) (sym dr)) in
+    is ∙ (ap (λ (k : ℕ). eight k ++ rest) (sym lp) ∙ (ap (λ (z : List ℕ). eight (length piece) ++ z) whole ∙ sym (append_assoc (eight (length piece)) piece more)))
 
 -- the length of a key
 pub length-key : (front covered signature : List ℕ) → length (key_by front covered signature) ≡ 16 + (length front + length covered + length signature)
@@ -132,12 +132,6 @@ same_pieces (p ∷ ps) (q ∷ qs) l h e =
     ∙ ap (λ (n : ℕ). n + length (flat_map framed qs)) (length-framed q)) in
     let w = same_frames p q (flat_map framed ps) (flat_map framed qs) (omega (arith, a, h)) (omega (arith, b, h)) e in
     ap (λ (z : List ℕ). z ∷ ps) w.0 ∙ ap (λ (z : List (List ℕ)). q ∷ z) (same_pieces ps qs (omega (arith, l)) (omega (arith, a, h)) w.1)
-
--- a number and such pieces
-pub same_numbered : (m n : ℕ) (x y : List ℕ) → m < 2 ^ 64 → n < 2 ^ 64 → eight m ++ x ≡ eight n ++ y → (m ≡ n) × (x ≡ y)
-same_numbered m n x y hm hn e =
-    let heads : eight m ≡ eight n = fronts (eight m) (eight n) x y (length-eight m ∙ sym (length-eight n)) e in
-    (same_eights m n hm hn heads, behinds (eight m) (eight n) x y heads e)
 
 -- a key as a number and framed pieces
 pub assoc_six : (a b c d e f g h : List ℕ) → (a ++ (b ++ (c ++ (d ++ (e ++ f))))) ++ (g ++ h) ≡ a ++ (b ++ (c ++ (d ++ (e ++ (f ++ (g ++ (h ++ [])))))))

@@ -1,5 +1,5 @@
 -- What a call over buffers returns.
-use Rattle.std.specs.Prelude.{◌≡◌, ℕ, ◌<◌, ◌≤◌, ◌⊎◌, List, [], ◌++◌, length, drop, flat_map, Option, None, Some, Bool, true}
+use Rattle.std.specs.Prelude.{◌≡◌, ℕ, ◌<◌, ◌≤◌, ◌*◌, ◌⊎◌, List, [], ◌++◌, length, drop, flat_map, Option, None, Some, Bool, true}
 use Rattle.coset_labels.specs.Limits.{AreLimits}
 use Rattle.cose_gate_core.specs.Findings.{Bounds, within}
 use Rattle.cose_gate_core.specs.Questions.{Question}
@@ -7,9 +7,10 @@ use Rattle.cose_gate_program.specs.Judge.{says_yes}
 use Rattle.cose_gate_program.specs.Program.{Devices}
 use Rattle.cose_gate_program.specs.Telling.{RanTold, EndsTold}
 use Rattle.cose_gate_program.specs.declared.telling.Notice.{Notice}
+use Rattle.cose_gate_records.specs.Digests.{AreDigests, is_digest_among}
 use Rattle.cose_gate_records.specs.Framing.{framed}
 use Rattle.cose_gate_records.specs.Records.{is_among, record_of}
-use Rattle.cose_gate_records.specs.Lines.{AreLines, AreLinesOf, AreLinesThenMemory, no_records, stopped}
+use Rattle.cose_gate_records.specs.Lines.{AreLines, AreLinesOf, AreLinesThenMemory, no_digests, no_records, stopped}
 use Rattle.cose_gate_records.specs.declared.answer.Answer.{Answer}
 
 -- the input to come and the output, if they are known, when nothing has failed
@@ -90,24 +91,26 @@ Asks nesting layers strict aad input old new answer =
     Answers nesting layers
     (Told (within nesting layers strict) aad input new.lines answer.lines) old new answer
 
--- the run with the judge that says yes if the key of a question is one of these
-abbrev pub RunsBy : Bounds → List (List ℕ) → List ℕ → List ℕ → List ℕ → ℕ → List ℕ → ℕ → Type 0
-RunsBy limits keys aad input lines count written status = (left : Option (List ℕ))
-    × RanTold limits (is_among keys) aad (devices (Some input) (Some []))
+-- the run with a judge that allows these questions
+abbrev pub RunsBy : Bounds → (Question → Bool) → List ℕ → List ℕ → List ℕ → ℕ → List ℕ → ℕ
+    → Type 0
+RunsBy limits allows aad input lines count written status = (left : Option (List ℕ))
+    × RanTold limits allows aad (devices (Some input) (Some []))
     (devices left (Some written)) status (λ _. Unit {0}) (AreLinesOf lines count)
 
 -- that run, or memory ran out for its output
-abbrev pub RanBy : Bounds → List (List ℕ) → List ℕ → List ℕ → List ℕ → ℕ → List ℕ → ℕ → Type 0
-RanBy limits keys aad input lines count written status =
-    RunsBy limits keys aad input lines count written status
-    ⊎ (NoMemory written status × IsCut limits (is_among keys) aad input lines count)
+abbrev pub RanBy : Bounds → (Question → Bool) → List ℕ → List ℕ → List ℕ → ℕ → List ℕ → ℕ
+    → Type 0
+RanBy limits allows aad input lines count written status =
+    RunsBy limits allows aad input lines count written status
+    ⊎ (NoMemory written status × IsCut limits allows aad input lines count)
 
 -- if what was accepted is records, one after another, that run; else nothing was read, and the lines
 -- are one that says so. If memory ran out for the records, nothing was read either.
 abbrev pub Passed : Bounds → List ℕ → List ℕ → List ℕ → List ℕ → ℕ → List ℕ → ℕ → Type 0
 Passed limits accepted aad input lines count written status =
     ((keys : List (List ℕ)) × (accepted ≡ flat_map framed keys)
-    × RanBy limits keys aad input lines count written status)
+    × RanBy limits (is_among keys) aad input lines count written status)
     ⊎ (((keys : List (List ℕ)) → accepted ≡ flat_map framed keys → ⊥) × (written ≡ []) × (status ≡ 3)
     × AreLines no_records lines count)
     ⊎ (NoMemory written status × AreLines stopped lines count)
@@ -116,3 +119,19 @@ abbrev pub Passes : ℕ → ℕ → Bool → List ℕ → List ℕ → List ℕ 
 Passes nesting layers strict accepted aad input old new answer =
     Answers nesting layers
     (Passed (within nesting layers strict) accepted aad input new.lines answer.lines) old new answer
+
+-- the same with digests of 32 bytes, one after another, in place of records
+abbrev pub PassedDigests : Bounds → List ℕ → List ℕ → List ℕ → List ℕ → ℕ → List ℕ → ℕ → Type 0
+PassedDigests limits accepted aad input lines count written status =
+    ((digests : List (List ℕ)) × AreDigests accepted digests
+    × RanBy limits (is_digest_among digests) aad input lines count written status)
+    ⊎ (((n : ℕ) → length accepted ≡ n * 32 → ⊥) × (written ≡ []) × (status ≡ 3)
+    × AreLines no_digests lines count)
+    ⊎ (NoMemory written status × AreLines stopped lines count)
+
+abbrev pub PassesDigests : ℕ → ℕ → Bool → List ℕ → List ℕ → List ℕ → Buffers → Buffers → Answer
+    → Type 0
+PassesDigests nesting layers strict accepted aad input old new answer =
+    Answers nesting layers
+    (PassedDigests (within nesting layers strict) accepted aad input new.lines answer.lines)
+    old new answer

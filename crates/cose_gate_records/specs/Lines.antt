@@ -24,6 +24,10 @@ stopped = codes "stopped: memory\n"
 abbrev pub no_records : List ℕ
 no_records = codes "accepted: no records\n"
 
+-- and the one that says that it is no digests
+abbrev pub no_digests : List ℕ
+no_digests = codes "accepted: no digests\n"
+
 -- the lines are this text: as much of it as fits is in front of the buffer, and so long is all of it
 abbrev pub AreLines : List ℕ → List ℕ → ℕ → Type 0
 AreLines text buffer count = IsShown text buffer × (count ≡ counted text)

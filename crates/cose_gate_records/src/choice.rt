@@ -20,7 +20,7 @@ pub struct Choice {
 
 impl Choice {
     /// What the gate goes by; `None` if the limits are not allowed.
-    pub(crate) fn terms(self) -> Option<Terms>
+    pub fn terms(self) -> Option<Terms>
         ensures { MatchOption result (AreLimits self.nesting self.layers → ⊥)
             (λ terms. AreLimits self.nesting self.layers
             × (limits_of terms ≡ within self.nesting self.layers self.strict)) }

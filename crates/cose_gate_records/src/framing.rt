@@ -1,5 +1,5 @@
 //! Bytes after their length: eight bytes, the lowest first.
-ghost use Rattle.std.specs.Prelude.{◌≡◌, ◌++◌, ℕ, List, MatchOption, IfOk, OnOk, OnErr};
+ghost use Rattle.std.specs.Prelude.{◌≡◌, ◌<◌, ◌^◌, ◌++◌, ℕ, List, MatchOption, IfOk, OnOk, OnErr};
 ghost use Rattle.std.specs.Prelude.{map, flat_map};
 ghost use Rattle.std.specs.Ordering.{ordering_then};
 ghost use Rattle.cose_gate_records.specs.Framing.{eight, framed};
@@ -23,22 +23,33 @@ pub fn append(text: &mut Vec<u8>, piece: &[u8]) -> Result<(), AllocError>
     text.extend_from_slice(piece)
 }
 
-/// The length that eight bytes are.
-fn length_of(bytes: [u8; 8]) -> usize
+/// The number that eight bytes are.
+fn number_of(bytes: [u8; 8]) -> u64
     ensures { eight result ≡ bytes }
 {
-    u64::from_le_bytes(bytes) as usize
+    u64::from_le_bytes(bytes)
+}
+
+/// The number that the first eight bytes are, the lowest first, and the rest; `None` if there are
+/// fewer bytes.
+pub fn split_number(bytes: &[u8]) -> Option<(u64, &[u8])>
+    ensures { MatchOption result
+        ((number : ℕ) (rest : List ℕ) → bytes.now ≡ eight number ++ rest → ⊥)
+        (λ p. (p.0 < 2 ^ 64) × (bytes.now ≡ eight p.0 ++ p.1.now)) }
+{
+    let (number, rest) = bytes.split_first_chunk::<8>()?;
+    Some((number_of(*number), rest))
 }
 
 /// The first bytes that come after their length, and the rest; `None` if there are fewer bytes than
-/// that length. A length is eight bytes, the lowest first.
+/// that length.
 pub fn split_first(bytes: &[u8]) -> Option<(&[u8], &[u8])>
     ensures { MatchOption result
         ((piece rest : List ℕ) → bytes.now ≡ framed piece ++ rest → ⊥)
         (λ p. bytes.now ≡ framed p.0.now ++ p.1.now) }
 {
-    let (length, rest) = bytes.split_first_chunk::<8>()?;
-    let (piece, rest) = rest.split_at_checked(length_of(*length))?;
+    let (length, rest) = split_number(bytes)?;
+    let (piece, rest) = rest.split_at_checked(length as usize)?;
     Some((piece, rest))
 }
 

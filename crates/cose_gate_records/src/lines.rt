@@ -14,7 +14,7 @@ pub(crate) const STOPPED: &[u8] = b"stopped: memory\n";
 /// The lines of a run, over a buffer that keeps the front of all that is written, as much as fits.
 /// All of it is counted. Writing never fails.
 #[derive(Drop)]
-pub(crate) struct Lines<'a> {
+pub struct Lines<'a> {
     buffer: &'a mut [u8],
     tally: Tally,
     /// Where the last line begins.
@@ -46,7 +46,7 @@ impl<'a> Lines<'a> {
     ghost use Rattle.cose_gate_records.specs.Views.{said};
 
     /// Lines in this buffer, of which there are none yet.
-    pub(crate) fn new(buffer: &'a mut [u8]) -> Lines<'a>
+    pub fn new(buffer: &'a mut [u8]) -> Lines<'a>
         ensures said { said result ≡ [] }
         ensures kept { result.buffer.ghost_name ≡ buffer.entry.ghost_name }
     {
@@ -58,14 +58,14 @@ impl<'a> Lines<'a> {
     }
 
     /// Where the last line begins.
-    pub(crate) fn last(&self) -> usize
+    pub fn last(&self) -> usize
         ensures { result ≡ self.now.last }
     {
         self.last
     }
 
     /// How long all lines are.
-    pub(crate) fn end(&self) -> usize
+    pub fn end(&self) -> usize
         ensures { result ≡ counted (said self.now) }
     {
         self.tally.end
@@ -122,7 +122,7 @@ impl<'a> Teller for Lines<'a> {
 
 /// Says that it is out of memory, in place of the last line, which begins at this place: what the
 /// run ended with counts no more. Returns how long all lines are.
-pub(crate) fn stop_for_memory(lines: &mut [u8], last: usize) -> usize
+pub fn stop_for_memory(lines: &mut [u8], last: usize) -> usize
     ensures shown { (before rest : List ℕ) → last ≡ counted before
         → IsShown (before ++ rest) «lines».old → IsShown (before ++ stopped) «lines».new }
     ensures counted { (before : List ℕ) → last ≡ counted before

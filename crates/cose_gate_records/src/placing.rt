@@ -23,7 +23,7 @@ fn fill(out: &mut [u8], text: &[u8]) -> bool
 
 /// Puts what a run wrote into the caller's buffer, and returns its status and length; if it is too
 /// long the buffer stays, and the status says so.
-pub(crate) fn place(out: &mut [u8], text: &[u8], status: u8, lines: usize) -> Answer
+pub fn place(out: &mut [u8], text: &[u8], status: u8, lines: usize) -> Answer
     ensures length { result.length ≡ length text.now }
     ensures fits { length text.now ≤ length «out».old
         → (result.status ≡ status) × («out».new ≡ text.now ++ drop (length text.now) «out».old) }
@@ -47,7 +47,7 @@ pub(crate) fn place(out: &mut [u8], text: &[u8], status: u8, lines: usize) -> An
 }
 
 /// The answer, with this status, of a call that wrote no output.
-pub(crate) fn place_none(out: &mut [u8], status: u8, lines: usize) -> Answer
+pub fn place_none(out: &mut [u8], status: u8, lines: usize) -> Answer
     ensures length { result.length ≡ 0 }
     ensures status { result.status ≡ status }
     ensures same { «out».new ≡ «out».old }

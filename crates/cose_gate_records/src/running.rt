@@ -14,19 +14,22 @@ use std::alloc::Global;
 
 /// What a run goes by.
 #[derive(Clone, Copy)]
-pub(crate) struct RunTerms<'a> {
+pub struct RunTerms<'a> {
     /// The limits, and whether the gate is strict.
-    pub(crate) terms: Terms,
+    pub terms: Terms,
     /// The external data.
-    pub(crate) aad: &'a [u8],
+    pub aad: &'a [u8],
 }
 
-/// How a run ended: its status, where its last line begins, and where all lines end.
+/// How a run ended.
 #[derive(Debug, Clone, Copy, PartialEq, Eq)]
-pub(crate) struct Ended {
-    pub(crate) status: u8,
-    pub(crate) last: usize,
-    pub(crate) end: usize,
+pub struct Ended {
+    /// The status.
+    pub status: u8,
+    /// Where its last line begins.
+    pub last: usize,
+    /// Where all lines end.
+    pub end: usize,
 }
 
 /// The run under the key set of these bytes.

@@ -11,6 +11,8 @@ mod equal;
 #[cfg(test)]
 mod gate;
 #[cfg(test)]
+mod judges;
+#[cfg(test)]
 mod messages;
 #[cfg(test)]
 mod program;

@@ -1,7 +1,10 @@
 //! Members of JSON objects (RFC 8259). They are written as they come, so that nothing is held
 //! beside the item.
-use crate::line::write_shown;
-use crate::parts::{integer, is_bytes, joined};
+use crate::keys::Keys;
+use crate::parts::{integer, is_null, items};
+use crate::shows::{Done, Entry, Group, Labels, PartIs, Seen, Shows};
+use crate::text::{operation_name, write_shown};
+use crate::time::claim_time;
 use cbor_diag::{Page, Style, View, write_hex};
 use std::alloc::Global;
 use std::fmt;
@@ -39,61 +42,224 @@ fn write_escaped<P: fmt::Write>(text: &str, page: &mut Page<'_, P>) {
     }
 }
 
-/// Writes the name of a member after others.
-pub fn write_name<P: fmt::Write>(name: &str, page: &mut Page<'_, P>) {
-    write!(page, ",\"{name}\":");
+/// Members of an object, each after others. An entry whose value may be a secret has a `length` in
+/// place of a `value`, unless secrets are asked for.
+#[derive(Drop)]
+pub struct Json<'a, P> {
+    alloc: Global,
+    /// What they are written on.
+    pub page: Page<'a, P>,
+    /// What comes before the next one in the list at hand.
+    mark: &'static str,
 }
 
-/// Writes a member whose value is a text.
-pub fn write_word<P: fmt::Write>(name: &str, word: &str, page: &mut Page<'_, P>) {
-    write_name(name, page);
-    page.write_str("\"");
-    write_escaped(word, page);
-    page.write_str("\"");
-}
-
-/// Writes bytes in hex between quotes, or `...` if they may hold secrets of keys and those aren't
-/// shown.
-pub fn write_hex_text<P: fmt::Write>(bytes: View<'_>, page: &mut Page<'_, P>) {
-    page.write_str("\"");
-    if bytes.holds_hidden() {
-        page.write_str("...");
-    } else {
-        write_hex(bytes.bytes(), page);
-    }
-    page.write_str("\"");
-}
-
-/// Writes a member with the length of a byte string that isn't shown; nothing of another item.
-pub fn write_length<P: fmt::Write>(alloc: Global, item: View<'_>, page: &mut Page<'_, P>) {
-    if is_bytes(item.bytes()) {
-        if let Some(bytes) = page.kept(joined(alloc, item)) {
-            write!(page, ",\"length\":{}", bytes.view().len());
+impl<'a, P: fmt::Write> Json<'a, P> {
+    /// Nothing yet.
+    pub fn new(alloc: Global, out: &'a mut P) -> Json<'a, P> {
+        Json {
+            alloc,
+            page: Page::new(out),
+            mark: "",
         }
     }
-}
 
-/// Writes a member with the number that an integer is, from -(2^53 - 1) to 2^53 - 1; nothing of
-/// another item.
-pub fn write_number<P: fmt::Write>(item: View<'_>, page: &mut Page<'_, P>) {
-    if item.is_hidden() {
-        return;
+    /// Writes the name of a member.
+    pub fn name(&mut self, name: &str) {
+        write!(self.page, ",\"{name}\":");
     }
-    if let Some(number) = integer(item.bytes()) {
-        if (-GREATEST..=GREATEST).contains(&number) {
-            write!(page, ",\"number\":{number}");
+
+    /// Writes a member whose value is a text.
+    pub fn word(&mut self, name: &str, word: &str) {
+        self.name(name);
+        self.page.write_str("\"");
+        write_escaped(word, &mut self.page);
+        self.page.write_str("\"");
+    }
+
+    /// Begins a list.
+    pub fn open(&mut self) {
+        self.page.write_str("[");
+        self.mark = "";
+    }
+
+    /// Writes what parts the next one from those before it.
+    pub fn next(&mut self) {
+        self.page.write_str(self.mark);
+        self.mark = ",";
+    }
+
+    /// Ends a list.
+    pub fn close(&mut self) {
+        self.page.write_str("]");
+        self.mark = ",";
+    }
+
+    /// Writes bytes in hex between quotes, or `...` if an item in them is hidden.
+    pub fn hex(&mut self, bytes: View<'_>) {
+        self.page.write_str("\"");
+        if bytes.holds_hidden() {
+            self.page.write_str("...");
+        } else {
+            write_hex(bytes.bytes(), &mut self.page);
+        }
+        self.page.write_str("\"");
+    }
+
+    /// Writes the notation of an item between quotes, as `write_shown` does on one line.
+    fn notation(&mut self, item: View<'_>) {
+        self.page.write_str("\"");
+        let mut quoted = Quoted {
+            page: &mut self.page,
+        };
+        let mut inside = Page::new(&mut quoted);
+        write_shown(self.alloc, Style::line(), item, 0, &mut inside);
+        let end = inside.end();
+        if self.page.kept(end).is_some() {
+            self.page.write_str("\"");
         }
     }
+
+    /// Writes a member with the notation of an item.
+    pub fn noted(&mut self, item: View<'_>) {
+        self.name("notation");
+        self.notation(item);
+    }
+
+    /// Writes a value: its notation, as a number if it is an integer from -(2^53 - 1) to 2^53 - 1,
+    /// and what is registered of it.
+    fn value(&mut self, entry: Entry<'_>, value: View<'_>) -> Done {
+        self.name("value");
+        self.notation(value);
+        if let Some(number) = integer(value.bytes()) {
+            if (-GREATEST..=GREATEST).contains(&number) {
+                write!(self.page, ",\"number\":{number}");
+            }
+        }
+        if let Some(name) = entry.value_name(value) {
+            self.word("value_name", name);
+        }
+        if let Some(time) = claim_time(entry.labels, entry.number, value.bytes()) {
+            write!(self.page, ",\"time\":\"{time}\"");
+        }
+        if entry.is_operations() {
+            self.operations(value)?;
+        }
+        Ok(())
+    }
+
+    /// The names of operations, null in place of one that has none.
+    fn operations(&mut self, value: View<'_>) -> Done {
+        let Some(mut list) = items(self.alloc, value) else {
+            return Ok(());
+        };
+        self.name("value_names");
+        self.open();
+        for _ in 0..u64::MAX {
+            let Some(one) = list.next()? else {
+                break;
+            };
+            self.next();
+            match operation_name(one) {
+                Some(name) => write!(self.page, "\"{name}\""),
+                None => self.page.write_str("null"),
+            }
+            self.page.end()?;
+        }
+        self.close();
+        Ok(())
+    }
 }
 
-/// Writes the notation of an item between quotes, as `write_shown` does on one line.
-pub fn write_notation<P: fmt::Write>(alloc: Global, item: View<'_>, page: &mut Page<'_, P>) {
-    page.write_str("\"");
-    let mut quoted = Quoted { page };
-    let mut inside = Page::new(&mut quoted);
-    write_shown(alloc, Style::line(), item, 0, &mut inside);
-    let end = inside.end();
-    if page.kept(end).is_some() {
-        page.write_str("\"");
+impl<'a, P: fmt::Write> Shows for Json<'a, P> {
+    fn begin(&mut self, group: Group<'_>) -> Done {
+        match group {
+            Group::Message(name, tag) => {
+                self.word("kind", name);
+                write!(self.page, ",\"tag_number\":{tag}");
+            }
+            Group::Keys(keys) => {
+                let is_one = keys == Keys::One;
+                self.word("kind", if is_one { "COSE_Key" } else { "COSE_KeySet" });
+                self.name("keys");
+                self.open();
+            }
+            Group::List(name) => {
+                write!(self.page, ",\"{name}s\":");
+                self.open();
+            }
+            Group::One(_, _, item) => {
+                self.next();
+                self.page.write_str("{\"notation\":");
+                self.notation(item);
+            }
+            Group::Key(_) => {
+                self.next();
+                self.open();
+            }
+            Group::Header(name, _) => {
+                self.name(name);
+                self.open();
+            }
+            Group::Claims(payload) => {
+                self.name("payload");
+                self.hex(payload);
+                self.name("claims");
+                self.open();
+            }
+        }
+        self.page.end()
+    }
+
+    fn part(&mut self, name: &'static str, is: PartIs<'_>) -> Done {
+        match is {
+            PartIs::Missing | PartIs::Wrong | PartIs::More(_) => return Ok(()),
+            PartIs::NoKey(_, _) => self.next(),
+            PartIs::NoList(_) => write!(self.page, ",\"{name}s\":"),
+            _ => self.name(name),
+        }
+        match is {
+            PartIs::Bytes(bytes) | PartIs::Payload(bytes, _) => self.hex(bytes),
+            PartIs::Item(item) if is_null(item.bytes()) => self.page.write_str("null"),
+            PartIs::NoItem(bytes, _) if bytes.is_empty() => self.page.write_str("[]"),
+            PartIs::Item(item)
+            | PartIs::NoList(item)
+            | PartIs::NoBytes(item)
+            | PartIs::NoItem(_, item)
+            | PartIs::NoMap(_, item) => self.notation(item),
+            _ => self.page.write_str("null"),
+        }
+        self.page.end()
+    }
+
+    /// An entry, with the names that are registered.
+    fn entry(&mut self, entry: Entry<'_>) -> Done {
+        self.next();
+        self.page.write_str("{\"label\":");
+        match entry.labels {
+            Labels::Key(_) if entry.label.is_hidden() => self.page.write_str("null"),
+            _ => self.notation(entry.label),
+        }
+        if let Some(name) = entry.name() {
+            self.word("name", name);
+        }
+        match entry.value {
+            Seen::Item(value) => self.value(entry, value)?,
+            Seen::Hidden(Some(len)) => write!(self.page, ",\"length\":{len}"),
+            Seen::Hidden(None) => {}
+        }
+        self.page.write_str("}");
+        self.page.end()
+    }
+
+    fn end(&mut self, group: Group<'_>) -> Done {
+        match group {
+            Group::Message(_, _) => {}
+            Group::One(_, _, _) => {
+                self.page.write_str("}");
+                self.mark = ",";
+            }
+            _ => self.close(),
+        }
+        self.page.end()
     }
 }

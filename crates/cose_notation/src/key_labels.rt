@@ -176,26 +176,17 @@ fn rsa(number: i64) -> KeyLabel {
     match RsaKeyParameter::from_i64(number) {
         Some(RsaKeyParameter::N) => labeled("n", KeyPart::Public),
         Some(RsaKeyParameter::E) => labeled("e", KeyPart::Public),
-        Some(secret) => labeled(rsa_secret(secret), KeyPart::Secret),
+        Some(RsaKeyParameter::D) => labeled("d", KeyPart::Secret),
+        Some(RsaKeyParameter::P) => labeled("p", KeyPart::Secret),
+        Some(RsaKeyParameter::Q) => labeled("q", KeyPart::Secret),
+        Some(RsaKeyParameter::DP) => labeled("dP", KeyPart::Secret),
+        Some(RsaKeyParameter::DQ) => labeled("dQ", KeyPart::Secret),
+        Some(RsaKeyParameter::QInv) => labeled("qInv", KeyPart::Secret),
+        Some(RsaKeyParameter::Other) => labeled("other", KeyPart::Secret),
+        Some(RsaKeyParameter::RI) => labeled("r_i", KeyPart::Secret),
+        Some(RsaKeyParameter::DI) => labeled("d_i", KeyPart::Secret),
+        Some(RsaKeyParameter::TI) => labeled("t_i", KeyPart::Secret),
         None => UNKNOWN,
-    }
-}
-
-/// The name of a label of RSA keys that is no part of the public key.
-fn rsa_secret(label: RsaKeyParameter) -> &'static str {
-    match label {
-        RsaKeyParameter::N => "n",
-        RsaKeyParameter::E => "e",
-        RsaKeyParameter::D => "d",
-        RsaKeyParameter::P => "p",
-        RsaKeyParameter::Q => "q",
-        RsaKeyParameter::DP => "dP",
-        RsaKeyParameter::DQ => "dQ",
-        RsaKeyParameter::QInv => "qInv",
-        RsaKeyParameter::Other => "other",
-        RsaKeyParameter::RI => "r_i",
-        RsaKeyParameter::DI => "d_i",
-        RsaKeyParameter::TI => "t_i",
     }
 }
 

@@ -1,13 +1,13 @@
-//! What a COSE message holds (RFC 9052).
-use crate::header::{show_map, show_protected};
-use crate::line::{begin_line, write_shown, write_string};
-use crate::look::Look;
-use crate::parts::{Members, entries, header_of, is_bytes, is_null, items, joined, tagged};
-use crate::payload::show_payload;
-use cbor_diag::{NotWritten, Page, View};
+//! What a COSE message holds (RFC 9052), told part by part.
+use crate::names::claim;
+use crate::parts::{
+    Members, entries, header_of, integer, is_bytes, is_label, is_null, is_one_item, items, joined,
+    tagged,
+};
+use crate::shows::{Done, Group, Labels, PartIs, Shows, show_entries};
+use cbor_diag::{NotWritten, View};
 use ciborium_ll::Header;
 use std::alloc::Global;
-use std::fmt;
 
 /// The tag of a CBOR Web Token (RFC 8392, section 6).
 const CWT: u64 = 61;
@@ -38,47 +38,18 @@ pub enum Part {
     Recipients,
 }
 
-static SIGN1: Form = Form {
-    name: "COSE_Sign1",
-    parts: &[Part::Payload, Part::Signature],
-};
-
-static SIGN: Form = Form {
-    name: "COSE_Sign",
-    parts: &[Part::Payload, Part::Signatures],
-};
-
-static MAC0: Form = Form {
-    name: "COSE_Mac0",
-    parts: &[Part::Payload, Part::Tag],
-};
-
-static MAC: Form = Form {
-    name: "COSE_Mac",
-    parts: &[Part::Payload, Part::Tag, Part::Recipients],
-};
-
-static ENCRYPT0: Form = Form {
-    name: "COSE_Encrypt0",
-    parts: &[Part::Ciphertext],
-};
-
-static ENCRYPT: Form = Form {
-    name: "COSE_Encrypt",
-    parts: &[Part::Ciphertext, Part::Recipients],
-};
-
 /// The message that a tag is of (RFC 9052, section 2).
 fn form_of(tag: u64) -> Option<Form> {
-    match tag {
-        16 => Some(ENCRYPT0),
-        17 => Some(MAC0),
-        18 => Some(SIGN1),
-        96 => Some(ENCRYPT),
-        97 => Some(MAC),
-        98 => Some(SIGN),
-        _ => None,
-    }
+    let (name, parts): (&'static str, &'static [Part]) = match tag {
+        16 => ("COSE_Encrypt0", &[Part::Ciphertext]),
+        17 => ("COSE_Mac0", &[Part::Payload, Part::Tag]),
+        18 => ("COSE_Sign1", &[Part::Payload, Part::Signature]),
+        96 => ("COSE_Encrypt", &[Part::Ciphertext, Part::Recipients]),
+        97 => ("COSE_Mac", &[Part::Payload, Part::Tag, Part::Recipients]),
+        98 => ("COSE_Sign", &[Part::Payload, Part::Signatures]),
+        _ => return None,
+    };
+    Some(Form { name, parts })
 }
 
 /// What kind of message an item is, with its tag, and what the tag is around. The tag of a CWT
@@ -100,20 +71,17 @@ pub fn lacks_tag(alloc: Global, item: View<'_>) -> Result<bool, NotWritten> {
     let Some(mut parts) = items(alloc, item) else {
         return Ok(false);
     };
-    let (protected, unprotected) = (parts.next()?, parts.next()?);
-    let (payload, last) = (parts.next()?, parts.next()?);
-    if parts.next()?.is_some() {
-        return Ok(false);
-    }
-    match (protected, unprotected, payload, last) {
-        (Some(protected), Some(map), Some(payload), Some(last)) => Ok(
+    let headers = (parts.next()?, parts.next()?);
+    let others = (parts.next()?, parts.next()?, parts.next()?);
+    Ok(match (headers, others) {
+        ((Some(protected), Some(map)), (Some(payload), Some(last), None)) => {
             is_bytes(protected.bytes())
                 && entries(alloc, map).is_some()
                 && (is_bytes(payload.bytes()) || is_null(payload.bytes()))
-                && is_bytes(last.bytes()),
-        ),
-        _ => Ok(false),
-    }
+                && is_bytes(last.bytes())
+        }
+        _ => false,
+    })
 }
 
 /// Whether an item is a message whose parts can be shown.
@@ -124,85 +92,81 @@ pub fn is_message(item: View<'_>) -> bool {
     }
 }
 
-/// Shows the parts of the message that an item is, and nothing of another item.
-pub fn show_message<P: fmt::Write>(
-    alloc: Global,
-    look: Look,
-    item: View<'_>,
-    page: &mut Page<'_, P>,
-) {
+/// Tells the parts of the message that an item is, and nothing of another item.
+///
+/// # Errors
+/// `Output` and `Memory`.
+pub fn show_message<S: Shows>(alloc: Global, item: View<'_>, to: &mut S) -> Done {
     let Some((form, tag, content)) = message_of(item) else {
-        return;
+        return Ok(());
     };
-    let name = form.name;
-    writeln!(page, "  {name}, tag {tag}");
-    match items(alloc, content) {
-        Some(mut parts) => show_parts(alloc, look, form, &mut parts, page),
-        None => page.write_str("    not an array\n"),
-    }
-}
-
-fn show_parts<P: fmt::Write>(
-    alloc: Global,
-    look: Look,
-    form: Form,
-    parts: &mut Members<'_>,
-    page: &mut Page<'_, P>,
-) {
-    show_headers(alloc, look, parts, 2, page);
+    to.begin(Group::Message(form.name, tag))?;
+    let Some(mut parts) = items(alloc, content) else {
+        return to.part("not an array", PartIs::Wrong);
+    };
+    show_headers(alloc, &mut parts, to)?;
     for part in form.parts {
-        match parts.next_on(page) {
-            Some(item) => show_part(alloc, look, *part, item, page),
-            None => {
-                let name = name_of(*part);
-                writeln!(page, "    {name}: missing");
-            }
+        match parts.next()? {
+            Some(item) => show_part(alloc, *part, item, to)?,
+            None => to.part(name_of(*part), PartIs::Missing)?,
         }
     }
-    show_more(alloc, look, parts, 2, page);
+    show_more(&mut parts, to)
 }
 
 /// Items that have no place in the message.
-fn show_more<P: fmt::Write>(
-    alloc: Global,
-    look: Look,
-    parts: &mut Members<'_>,
-    level: usize,
-    page: &mut Page<'_, P>,
-) {
+fn show_more<S: Shows>(parts: &mut Members<'_>, to: &mut S) -> Done {
     for _ in 0..u64::MAX {
-        match parts.next_on(page) {
-            Some(item) => show_other(alloc, look, "more", item, level, page),
+        match parts.next()? {
+            Some(item) => to.part("more", PartIs::More(item))?,
             None => break,
         }
     }
+    Ok(())
 }
 
 /// The two headers.
-fn show_headers<P: fmt::Write>(
-    alloc: Global,
-    look: Look,
-    parts: &mut Members<'_>,
-    level: usize,
-    page: &mut Page<'_, P>,
-) {
-    match parts.next_on(page) {
-        Some(item) => show_protected(alloc, look, item, level, page),
-        None => missing("protected", level, page),
+fn show_headers<S: Shows>(alloc: Global, parts: &mut Members<'_>, to: &mut S) -> Done {
+    match parts.next()? {
+        Some(item) => show_protected(alloc, item, to)?,
+        None => to.part("protected", PartIs::Missing)?,
     }
-    match parts.next_on(page) {
-        Some(item) => show_map(alloc, look, "unprotected", item, level, page),
-        None => missing("unprotected", level, page),
+    match parts.next()? {
+        Some(item) => show_header(alloc, "unprotected", None, item, to),
+        None => to.part("unprotected", PartIs::Missing),
     }
 }
 
-fn missing<P: fmt::Write>(name: &str, level: usize, page: &mut Page<'_, P>) {
-    begin_line(level, page);
-    writeln!(page, "{name}: missing");
+/// A protected header: a byte string around a map, or an empty one (RFC 9052, section 3).
+fn show_protected<S: Shows>(alloc: Global, item: View<'_>, to: &mut S) -> Done {
+    let name = "protected";
+    if !is_bytes(item.bytes()) {
+        return to.part(name, PartIs::NoBytes(item));
+    }
+    let content = joined(alloc, item)?;
+    let bytes = content.view();
+    if is_one_item(alloc, bytes)? && !bytes.is_hidden() {
+        show_header(alloc, name, Some(bytes), bytes, to)
+    } else {
+        to.part(name, PartIs::NoItem(bytes, item))
+    }
+}
+
+fn show_header<S: Shows>(
+    alloc: Global,
+    name: &'static str,
+    bytes: Option<View<'_>>,
+    item: View<'_>,
+    to: &mut S,
+) -> Done {
+    match entries(alloc, item) {
+        Some(map) => show_entries(alloc, Group::Header(name, bytes), Labels::Headers, map, to),
+        None => to.part(name, PartIs::NoMap(bytes, item)),
+    }
 }
 
 /// The name of a part.
-pub fn name_of(part: Part) -> &'static str {
+fn name_of(part: Part) -> &'static str {
     match part {
         Part::Payload => "payload",
         Part::Ciphertext => "ciphertext",
@@ -213,110 +177,98 @@ pub fn name_of(part: Part) -> &'static str {
     }
 }
 
-fn show_part<P: fmt::Write>(
-    alloc: Global,
-    look: Look,
-    part: Part,
-    item: View<'_>,
-    page: &mut Page<'_, P>,
-) {
+fn show_part<S: Shows>(alloc: Global, part: Part, item: View<'_>, to: &mut S) -> Done {
     let name = name_of(part);
     match part {
-        Part::Payload if is_null(item.bytes()) => page.write_str("    payload: detached\n"),
-        Part::Ciphertext if is_null(item.bytes()) => page.write_str("    ciphertext: detached\n"),
-        Part::Payload if is_bytes(item.bytes()) => {
-            if let Some(payload) = page.kept(joined(alloc, item)) {
-                show_payload(alloc, look, payload.view(), page);
-            }
+        Part::Payload | Part::Ciphertext if is_null(item.bytes()) => {
+            to.part(name, PartIs::Detached)
         }
-        Part::Signatures => show_list(alloc, look, "signature", item, page),
-        Part::Recipients => show_list(alloc, look, "recipient", item, page),
-        _ => show_bytes(alloc, look, name, item, 2, page),
+        Part::Payload if is_bytes(item.bytes()) => show_payload(alloc, item, to),
+        Part::Signatures => show_list(alloc, "signature", item, to),
+        Part::Recipients => show_list(alloc, "recipient", item, to),
+        _ => show_bytes(alloc, name, item, to),
     }
 }
 
-/// A byte string in hex.
-fn show_bytes<P: fmt::Write>(
-    alloc: Global,
-    look: Look,
-    name: &str,
-    item: View<'_>,
-    level: usize,
-    page: &mut Page<'_, P>,
-) {
-    if !is_bytes(item.bytes()) {
-        show_other(alloc, look, name, item, level, page);
-        return;
-    }
-    if let Some(bytes) = page.kept(joined(alloc, item)) {
-        begin_line(level, page);
-        write!(page, "{name}, ");
-        write_string(look, bytes.view(), page);
+fn show_bytes<S: Shows>(alloc: Global, name: &'static str, item: View<'_>, to: &mut S) -> Done {
+    if is_bytes(item.bytes()) {
+        let content = joined(alloc, item)?;
+        to.part(name, PartIs::Bytes(content.view()))
+    } else {
+        to.part(name, PartIs::Item(item))
     }
 }
 
-/// An item in its notation.
-fn show_other<P: fmt::Write>(
-    alloc: Global,
-    look: Look,
-    name: &str,
-    item: View<'_>,
-    level: usize,
-    page: &mut Page<'_, P>,
-) {
-    begin_line(level, page);
-    write!(page, "{name}: ");
-    write_shown(alloc, look.lines(), item, level, page);
-    page.write_str("\n");
+fn show_payload<S: Shows>(alloc: Global, item: View<'_>, to: &mut S) -> Done {
+    let content = joined(alloc, item)?;
+    let payload = content.view();
+    let is_item = !payload.is_hidden() && is_one_item(alloc, payload)?;
+    if is_item && is_claims(alloc, payload)? {
+        if let Some(map) = entries(alloc, payload) {
+            return show_entries(alloc, Group::Claims(payload), Labels::Claims, map, to);
+        }
+    }
+    to.part("payload", PartIs::Payload(payload, is_item))
+}
+
+/// Whether an item is a claims set (RFC 8392): a map whose keys are numbers and texts, a registered
+/// claim among them.
+fn is_claims(alloc: Global, item: View<'_>) -> Result<bool, NotWritten> {
+    let Some(mut parts) = entries(alloc, item) else {
+        return Ok(false);
+    };
+    let mut found = false;
+    for _ in 0..u64::MAX {
+        let Some(key) = parts.next()? else {
+            break;
+        };
+        if !is_label(key.bytes()) {
+            return Ok(false);
+        }
+        found = found || is_known_claim(integer(key.bytes()));
+        let _ = parts.next()?;
+    }
+    Ok(found)
+}
+
+/// Whether the registry of claims has this number, which isn't the reserved one.
+fn is_known_claim(number: Option<i64>) -> bool {
+    match number {
+        Some(number) => number != 0 && claim(number).is_some(),
+        None => false,
+    }
 }
 
 /// Signatures or recipients: arrays of a protected header, an unprotected one, and bytes.
-fn show_list<P: fmt::Write>(
-    alloc: Global,
-    look: Look,
-    name: &str,
-    item: View<'_>,
-    page: &mut Page<'_, P>,
-) {
+fn show_list<S: Shows>(alloc: Global, name: &'static str, item: View<'_>, to: &mut S) -> Done {
     let Some(mut list) = items(alloc, item) else {
-        show_other(alloc, look, name, item, 2, page);
-        return;
+        return to.part(name, PartIs::NoList(item));
     };
+    to.begin(Group::List(name))?;
     for number in 1..u64::MAX {
-        match list.next_on(page) {
-            Some(one) => {
-                writeln!(page, "    {name} {number}");
-                show_one(alloc, look, name, one, page);
-            }
-            None if number == 1 => {
-                writeln!(page, "    no {name}");
-                break;
-            }
-            None => break,
-        }
+        let Some(one) = list.next()? else {
+            break;
+        };
+        to.begin(Group::One(name, number, one))?;
+        show_one(alloc, name, one, to)?;
+        to.end(Group::One(name, number, one))?;
     }
+    to.end(Group::List(name))
 }
 
-fn show_one<P: fmt::Write>(
-    alloc: Global,
-    look: Look,
-    name: &str,
-    one: View<'_>,
-    page: &mut Page<'_, P>,
-) {
+fn show_one<S: Shows>(alloc: Global, name: &'static str, one: View<'_>, to: &mut S) -> Done {
     let Some(mut parts) = items(alloc, one) else {
-        show_other(alloc, look, "not an array", one, 3, page);
-        return;
+        return to.part("not an array", PartIs::More(one));
     };
-    show_headers(alloc, look, &mut parts, 3, page);
+    show_headers(alloc, &mut parts, to)?;
     let last = if name == "recipient" {
         "ciphertext"
     } else {
         name
     };
-    match parts.next_on(page) {
-        Some(item) => show_bytes(alloc, look, last, item, 3, page),
-        None => missing(last, 3, page),
+    match parts.next()? {
+        Some(item) => show_bytes(alloc, last, item, to)?,
+        None => to.part(last, PartIs::Missing)?,
     }
-    show_more(alloc, look, &mut parts, 3, page);
+    show_more(&mut parts, to)
 }

@@ -15,99 +15,7 @@ pub fn parameter(number: i64) -> Option<&'static str> {
 }
 
 fn algorithm_parameter(number: i64) -> Option<&'static str> {
-    match HeaderAlgorithmParameter::from_i64(number) {
-        Some(entry) => Some(algorithm_parameter_name(entry)),
-        None => None,
-    }
-}
-
-/// The name of an algorithm: the registry "COSE Algorithms".
-pub fn algorithm(number: i64) -> Option<&'static str> {
-    match Algorithm::from_i64(number) {
-        Some(entry) => Some(algorithm_name(entry)),
-        None => None,
-    }
-}
-
-/// The name of a claim: the registry "CBOR Web Token (CWT) Claims".
-pub fn claim(number: i64) -> Option<&'static str> {
-    match CwtClaimName::from_i64(number) {
-        Some(entry) => Some(claim_name(entry)),
-        None => None,
-    }
-}
-
-/// The media type of a content format: the registry "CoAP Content-Formats".
-pub fn content_format(number: i64) -> Option<&'static str> {
-    match CoapContentFormat::from_i64(number) {
-        Some(entry) => Some(format_name(entry)),
-        None => None,
-    }
-}
-
-/// The name of a label that keys of every type have: the registry "COSE Key Common Parameters".
-pub fn key_parameter(number: i64) -> Option<&'static str> {
-    match KeyParameter::from_i64(number) {
-        Some(entry) => Some(key_parameter_name(entry)),
-        None => None,
-    }
-}
-
-/// The name of a type of keys: the registry "COSE Key Types".
-pub fn key_type(number: i64) -> Option<&'static str> {
-    match KeyType::from_i64(number) {
-        Some(entry) => Some(key_type_name(entry)),
-        None => None,
-    }
-}
-
-/// The name of a curve: the registry "COSE Elliptic Curves".
-pub fn curve(number: i64) -> Option<&'static str> {
-    match EllipticCurve::from_i64(number) {
-        Some(entry) => Some(curve_name(entry)),
-        None => None,
-    }
-}
-
-/// The name of what a key may be used for (RFC 9052, section 7.1).
-pub fn key_operation(number: i64) -> Option<&'static str> {
-    match KeyOperation::from_i64(number) {
-        Some(entry) => Some(key_operation_name(entry)),
-        None => None,
-    }
-}
-
-/// A label of headers.
-fn header_name(entry: HeaderParameter) -> &'static str {
-    match entry {
-        HeaderParameter::Reserved => "reserved",
-        HeaderParameter::Alg => "alg",
-        HeaderParameter::Crit => "crit",
-        HeaderParameter::ContentType => "content type",
-        HeaderParameter::Kid => "kid",
-        HeaderParameter::Iv => "IV",
-        HeaderParameter::PartialIv => "Partial IV",
-        HeaderParameter::CounterSignature => "counter signature",
-        HeaderParameter::CounterSignature0 => "CounterSignature0",
-        HeaderParameter::KidContext => "kid context",
-        HeaderParameter::CounterSignatureV2 => "Countersignature version 2",
-        HeaderParameter::CounterSignature0V2 => "Countersignature0 version 2",
-        HeaderParameter::KeyCwt => "kcwt",
-        HeaderParameter::KeyCwtClaimsSet => "kccs",
-        HeaderParameter::CwtClaims => "CWT Claims",
-        HeaderParameter::ObjectContentType => "typ",
-        HeaderParameter::X5Bag => "x5bag",
-        HeaderParameter::X5Chain => "x5chain",
-        HeaderParameter::X5T => "x5t",
-        HeaderParameter::X5U => "x5u",
-        HeaderParameter::CuphNonce => "CUPHNonce",
-        HeaderParameter::CuphOwnerPubKey => "CUPHOwnerPubKey",
-    }
-}
-
-/// A label of headers for one algorithm.
-fn algorithm_parameter_name(entry: HeaderAlgorithmParameter) -> &'static str {
-    match entry {
+    Some(match HeaderAlgorithmParameter::from_i64(number)? {
         HeaderAlgorithmParameter::X5ChainSender => "x5chain-sender",
         HeaderAlgorithmParameter::X5USender => "x5u-sender",
         HeaderAlgorithmParameter::X5TSender => "x5t-sender",
@@ -121,12 +29,12 @@ fn algorithm_parameter_name(entry: HeaderAlgorithmParameter) -> &'static str {
         HeaderAlgorithmParameter::StaticKeyId => "static key id",
         HeaderAlgorithmParameter::StaticKey => "static key",
         HeaderAlgorithmParameter::EphemeralKey => "ephemeral key",
-    }
+    })
 }
 
-/// An algorithm.
-fn algorithm_name(entry: Algorithm) -> &'static str {
-    match entry {
+/// The name of an algorithm: the registry "COSE Algorithms".
+pub fn algorithm(number: i64) -> Option<&'static str> {
+    Some(match Algorithm::from_i64(number)? {
         Algorithm::RS1 => "RS1",
         Algorithm::AesCtr128 => "A128CTR",
         Algorithm::AesCtr192 => "A192CTR",
@@ -210,12 +118,12 @@ fn algorithm_name(entry: Algorithm) -> &'static str {
         Algorithm::AES_CCM_64_128_128 => "AES-CCM-64-128-128",
         Algorithm::AES_CCM_64_128_256 => "AES-CCM-64-128-256",
         Algorithm::IV_GENERATION => "IV-GENERATION",
-    }
+    })
 }
 
-/// A claim.
-fn claim_name(entry: CwtClaimName) -> &'static str {
-    match entry {
+/// The name of a claim: the registry "CBOR Web Token (CWT) Claims".
+pub fn claim(number: i64) -> Option<&'static str> {
+    Some(match CwtClaimName::from_i64(number)? {
         CwtClaimName::GlobalPlatformComponents => "global_platform_component",
         CwtClaimName::Hcert => "hcert",
         CwtClaimName::EuphNonce => "EUPHNonce",
@@ -286,12 +194,12 @@ fn claim_name(entry: CwtClaimName) -> &'static str {
         CwtClaimName::PsaCertificationReference => "psa-certification-reference",
         CwtClaimName::PsaSoftwareComponents => "psa-software-components",
         CwtClaimName::PsaVerificationServiceIndicator => "psa-verification-service-indicator",
-    }
+    })
 }
 
-/// A content format. Those with parameters or an encoding beside the media type have them after it.
-fn format_name(entry: CoapContentFormat) -> &'static str {
-    match entry {
+/// The media type of a content format: the registry "CoAP Content-Formats".
+pub fn content_format(number: i64) -> Option<&'static str> {
+    Some(match CoapContentFormat::from_i64(number)? {
         CoapContentFormat::TextPlainUtf8 => "text/plain; charset=utf-8",
         CoapContentFormat::CoseEncrypt0 => "application/cose; cose-type=\"cose-encrypt0\"",
         CoapContentFormat::CoseMac0 => "application/cose; cose-type=\"cose-mac0\"",
@@ -377,24 +285,24 @@ fn format_name(entry: CoapContentFormat) -> &'static str {
         CoapContentFormat::VndOmaLwm2mCbor => "application/vnd.oma.lwm2m+cbor",
         CoapContentFormat::TextCss => "text/css",
         CoapContentFormat::ImageSvgXml => "image/svg+xml",
-    }
+    })
 }
 
-/// A label of keys.
-fn key_parameter_name(entry: KeyParameter) -> &'static str {
-    match entry {
+/// The name of a label that keys of every type have: the registry "COSE Key Common Parameters".
+pub fn key_parameter(number: i64) -> Option<&'static str> {
+    Some(match KeyParameter::from_i64(number)? {
         KeyParameter::Reserved => "reserved",
         KeyParameter::Kty => "kty",
         KeyParameter::Kid => "kid",
         KeyParameter::Alg => "alg",
         KeyParameter::KeyOps => "key_ops",
         KeyParameter::BaseIv => "Base IV",
-    }
+    })
 }
 
-/// A type of keys.
-fn key_type_name(entry: KeyType) -> &'static str {
-    match entry {
+/// The name of a type of keys: the registry "COSE Key Types".
+pub fn key_type(number: i64) -> Option<&'static str> {
+    Some(match KeyType::from_i64(number)? {
         KeyType::Reserved => "reserved",
         KeyType::OKP => "OKP",
         KeyType::EC2 => "EC2",
@@ -403,12 +311,12 @@ fn key_type_name(entry: KeyType) -> &'static str {
         KeyType::HSS_LMS => "HSS-LMS",
         KeyType::WalnutDSA => "WalnutDSA",
         KeyType::AKP => "AKP",
-    }
+    })
 }
 
-/// A curve.
-fn curve_name(entry: EllipticCurve) -> &'static str {
-    match entry {
+/// The name of a curve: the registry "COSE Elliptic Curves".
+pub fn curve(number: i64) -> Option<&'static str> {
+    Some(match EllipticCurve::from_i64(number)? {
         EllipticCurve::Reserved => "reserved",
         EllipticCurve::P_256 => "P-256",
         EllipticCurve::P_384 => "P-384",
@@ -422,12 +330,12 @@ fn curve_name(entry: EllipticCurve) -> &'static str {
         EllipticCurve::BrainpoolP320R1 => "brainpoolP320r1",
         EllipticCurve::BrainpoolP384R1 => "brainpoolP384r1",
         EllipticCurve::BrainpoolP512R1 => "brainpoolP512r1",
-    }
+    })
 }
 
-/// An operation.
-fn key_operation_name(entry: KeyOperation) -> &'static str {
-    match entry {
+/// The name of what a key may be used for (RFC 9052, section 7.1).
+pub fn key_operation(number: i64) -> Option<&'static str> {
+    Some(match KeyOperation::from_i64(number)? {
         KeyOperation::Sign => "sign",
         KeyOperation::Verify => "verify",
         KeyOperation::Encrypt => "encrypt",
@@ -438,5 +346,33 @@ fn key_operation_name(entry: KeyOperation) -> &'static str {
         KeyOperation::DeriveBits => "derive bits",
         KeyOperation::MacCreate => "MAC create",
         KeyOperation::MacVerify => "MAC verify",
+    })
+}
+
+/// A label of headers.
+fn header_name(entry: HeaderParameter) -> &'static str {
+    match entry {
+        HeaderParameter::Reserved => "reserved",
+        HeaderParameter::Alg => "alg",
+        HeaderParameter::Crit => "crit",
+        HeaderParameter::ContentType => "content type",
+        HeaderParameter::Kid => "kid",
+        HeaderParameter::Iv => "IV",
+        HeaderParameter::PartialIv => "Partial IV",
+        HeaderParameter::CounterSignature => "counter signature",
+        HeaderParameter::CounterSignature0 => "CounterSignature0",
+        HeaderParameter::KidContext => "kid context",
+        HeaderParameter::CounterSignatureV2 => "Countersignature version 2",
+        HeaderParameter::CounterSignature0V2 => "Countersignature0 version 2",
+        HeaderParameter::KeyCwt => "kcwt",
+        HeaderParameter::KeyCwtClaimsSet => "kccs",
+        HeaderParameter::CwtClaims => "CWT Claims",
+        HeaderParameter::ObjectContentType => "typ",
+        HeaderParameter::X5Bag => "x5bag",
+        HeaderParameter::X5Chain => "x5chain",
+        HeaderParameter::X5T => "x5t",
+        HeaderParameter::X5U => "x5u",
+        HeaderParameter::CuphNonce => "CUPHNonce",
+        HeaderParameter::CuphOwnerPubKey => "CUPHOwnerPubKey",
     }
 }

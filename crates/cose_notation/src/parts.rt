@@ -1,8 +1,7 @@
 //! The parts of an item, as slices of its bytes.
-use cbor_diag::{Event, NotWritten, Page, Place, Span, Step, View, Walk, Why, head_of, item_len};
+use cbor_diag::{Event, NotWritten, Place, Span, Step, View, Walk, Why, head_of, item_len};
 use ciborium_ll::Header;
 use std::alloc::Global;
-use std::fmt;
 
 /// The items of an array, or the keys and values of a map, one after another.
 #[derive(Drop)]
@@ -37,13 +36,6 @@ impl<'a> Members<'a> {
     }
 }
 
-impl<'a> Members<'a> {
-    /// The next one; none once the page has failed, as it does if memory is out.
-    pub fn next_on<P: fmt::Write>(&mut self, page: &mut Page<'_, P>) -> Option<View<'a>> {
-        page.kept(self.next()).flatten()
-    }
-}
-
 /// The bytes from a place on.
 pub fn behind(bytes: &[u8], at: usize) -> &[u8] {
     bytes.get(at..).unwrap_or(&[])
@@ -51,50 +43,41 @@ pub fn behind(bytes: &[u8], at: usize) -> &[u8] {
 
 /// The head that an item begins with.
 pub fn header_of(item: &[u8]) -> Option<Header> {
-    match head_of(item) {
-        Ok(head) => Some(head.header),
-        Err(_) => None,
-    }
+    Some(head_of(item).ok()?.header)
 }
 
 /// The items of an array.
 pub fn items(alloc: Global, item: View<'_>) -> Option<Members<'_>> {
-    match head_of(item.bytes()) {
-        Ok(head) => match head.header {
-            Header::Array(count) => Some(Members {
-                alloc,
-                rest: item.behind(head.len),
-                left: count.unwrap_or(usize::MAX),
-            }),
-            _ => None,
-        },
-        Err(_) => None,
+    let head = head_of(item.bytes()).ok()?;
+    match head.header {
+        Header::Array(count) => Some(Members {
+            alloc,
+            rest: item.behind(head.len),
+            left: count.unwrap_or(usize::MAX),
+        }),
+        _ => None,
     }
 }
 
 /// The keys and values of a map, in turns.
 pub fn entries(alloc: Global, item: View<'_>) -> Option<Members<'_>> {
-    match head_of(item.bytes()) {
-        Ok(head) => match head.header {
-            Header::Map(count) => Some(Members {
-                alloc,
-                rest: item.behind(head.len),
-                left: count.map_or(usize::MAX, |count| count.saturating_mul(2)),
-            }),
-            _ => None,
-        },
-        Err(_) => None,
+    let head = head_of(item.bytes()).ok()?;
+    match head.header {
+        Header::Map(count) => Some(Members {
+            alloc,
+            rest: item.behind(head.len),
+            left: count.map_or(usize::MAX, |count| count.saturating_mul(2)),
+        }),
+        _ => None,
     }
 }
 
 /// What a tag is around.
 pub fn tagged(item: View<'_>) -> Option<(u64, View<'_>)> {
-    match head_of(item.bytes()) {
-        Ok(head) => match head.header {
-            Header::Tag(number) => Some((number, item.behind(head.len))),
-            _ => None,
-        },
-        Err(_) => None,
+    let head = head_of(item.bytes()).ok()?;
+    match head.header {
+        Header::Tag(number) => Some((number, item.behind(head.len))),
+        _ => None,
     }
 }
 
@@ -102,10 +85,7 @@ pub fn tagged(item: View<'_>) -> Option<(u64, View<'_>)> {
 pub fn integer(item: &[u8]) -> Option<i64> {
     match header_of(item) {
         Some(Header::Positive(n)) => i64::try_from(n).ok(),
-        Some(Header::Negative(n)) => match i64::try_from(n) {
-            Ok(n) => Some((-1i64).wrapping_sub(n)),
-            Err(_) => None,
-        },
+        Some(Header::Negative(n)) => Some((-1i64).wrapping_sub(i64::try_from(n).ok()?)),
         _ => None,
     }
 }

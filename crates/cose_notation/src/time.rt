@@ -1,6 +1,6 @@
 //! Dates and times of day.
-use crate::header::Labels;
 use crate::parts::{header_of, integer};
+use crate::shows::Labels;
 use cbor_diag::whole_part;
 use ciborium_ll::Header;
 use std::fmt;

@@ -1,5 +1,5 @@
 -- What a judge that asks by the rules says and keeps.
-use Rattle.std.proofs.Common.{◌≡◌, ℕ, List, [], ◌∷◌, ◌++◌, Bool, flat_map, sym, ap, ◌∙◌, append_assoc}
+use Rattle.std.proofs.Common.{◌≡◌, ℕ, List, [], ◌∷◌, ◌++◌, Bool, Option, flat_map, sym, ap, subst, ◌∙◌, append_assoc}
 use Rattle.std.specs.Global.{Vec}
 use Rattle.std.specs.Prelude.{Result, Ok, Err}
 use Rattle.std.specs.Result.{is_ok}
@@ -7,6 +7,7 @@ use Rattle.std.proofs.lemmas.List.{append-nil, append_cancel_left}
 use Rattle.std.proofs.lemmas.Grind.{flat_map-append}
 use Rattle.ciborium_ll.specs.declared.log.Log.{Log}
 use Rattle.coset_keys.specs.Fields.{KeyFields}
+use Rattle.cose_rules.specs.Claims.{TermsFields}
 use Rattle.cose_rules.specs.Rule.{RulingFields, ask, refuse}
 use Rattle.cose_rules.specs.declared.deciding.Refusal.{Refusal as Unasked}
 use Rattle.cose_gate_core.specs.Questions.{Subject}
@@ -15,7 +16,7 @@ use Rattle.cose_gate_core.specs.declared.report.Entry.{Entry}
 use Rattle.cose_gate_records.specs.Digests.{digest_by}
 use Rattle.cose_gate_records.specs.Framing.{framed}
 use Rattle.cose_gate_records.specs.Records.{front_of}
-use Rattle.cose_ruled.specs.Blocks.{Part, Asked, Item, is_ask, by_ruling, about_of, part_by, part_of, block_by}
+use Rattle.cose_ruled.specs.Blocks.{Part, Asked, Item, is_ask, by_ruling, about_of, part_by, part_of, IsBlock}
 use Rattle.cose_ruled.specs.Told.{about_in, parts_in}
 use Rattle.cose_ruled.specs.declared.told.Told.{Told}
 
@@ -65,6 +66,6 @@ item_begins keys before before' log old e is =
     ap (λ (z : List Part). record { keys = keys; before = z }) (begun_behind before before' log old e is)
 
 -- the block of what was told since
-pub block_since : (entry : Entry) (end : ℕ) (before now ps : List Part) (block : List ℕ) → block ≡ block_by entry end now
-    → before ++ now ≡ before ++ ps → block ≡ block_by entry end ps
-block_since entry end before now ps block is e = is ∙ ap (λ (z : List Part). block_by entry end z) (append_cancel_left before now ps e)
+pub block_since : (token : Option TermsFields) (entry : Entry) (end : ℕ) (before now ps : List Part) (block : List ℕ) → IsBlock token entry end now block
+    → before ++ now ≡ before ++ ps → IsBlock token entry end ps block
+block_since token entry end before now ps block is e = subst (λ (z : List Part). IsBlock token entry end z block) (append_cancel_left before now ps e) is

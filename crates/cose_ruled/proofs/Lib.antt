@@ -4,3 +4,4 @@ pub mod Keeping
 pub mod Placed
 pub mod Runs
 pub mod Shared
+pub mod Tokens

@@ -1,6 +1,6 @@
 -- How the gate asks by the rules, item by item.
 use Rattle.std.proofs.Common.{◌≡◌, ℕ, ◌+◌, ◌<◌, List, [], ◌∷◌, ◌++◌, length, take, map, Option, None, Bool, true, refl, sym, ap, subst, ◌∙◌, arith, append_assoc, append-nil, length-append}
-use Rattle.std.specs.Prelude.{flat_map, Result, Ok, Err, OnOk, OnErr, is_ok}
+use Rattle.std.specs.Prelude.{Result, Ok, Err, OnOk, OnErr, is_ok}
 use Rattle.std.specs.Io.KnownBytes.{Appends, Keeps}
 use Rattle.std.proofs.KnownBytes.{Appends-trans}
 use Rattle.std.proofs.Math.Seq.{take-append-add, take-length}
@@ -9,9 +9,10 @@ use Rattle.ciborium_ll.specs.Device.{AppendsFront, write_failures}
 use Rattle.ciborium_ll.specs.declared.write.Write.{Ghosts as Writes}
 use Rattle.ciborium.specs.Items.{Item, SequenceWithin}
 use Rattle.coset_keys.specs.Fields.{KeyFields}
+use Rattle.cose_rules.specs.Claims.{TermsFields}
 use Rattle.cose_gate_core.specs.Asked.{folded_over}
 use Rattle.cose_gate_core.specs.Findings.{Bounds}
-use Rattle.cose_gate_core.specs.GateRun.{asking, writing, noting, Ending, finished, unflushed, unreadable, no_memory, within, Ran}
+use Rattle.cose_gate_core.specs.GateRun.{noting, Ending, finished, unflushed, unreadable, no_memory, within, Ran}
 use Rattle.cose_gate_core.specs.Next.{Reached, RanSteps, GoesOn}
 use Rattle.cose_gate_core.specs.Outcome.{Rules, GateState, reader_failures, writer_failures}
 use Rattle.cose_gate_core.specs.Questions.{Question}
@@ -21,7 +22,7 @@ use Rattle.cose_gate_core.specs.declared.gating.GateFault.{GateFault}
 use Rattle.cose_gate_core.specs.declared.gating.GateFault.TheVariants.{Decode, Write, Memory}
 use Rattle.cose_gate_core.specs.declared.report.Entry.{Entry}
 use Rattle.cose_gate_core.proofs.Outcomes.{answer_unflushed, flushed, left_after, rest_of, rest_known}
-use Rattle.cose_gate_core.proofs.Reach.{entries_then, flat_then, folded_append, output_then, questions_then}
+use Rattle.cose_gate_core.proofs.Reach.{entries_then, folded_append, output_then, questions_then}
 use Rattle.cose_gate_program.specs.Faults.{is_end}
 use Rattle.cose_gate_program.specs.Program.{Devices}
 use Rattle.cose_gate_program.specs.Telling.{items_of, last_of, status_at, tells}
@@ -31,8 +32,8 @@ use Rattle.cose_gate_program.specs.declared.telling.Notice.TheVariants as notice
 use Rattle.cose_gate_program.specs.declared.telling.Teller.{Ghosts as Tells}
 use Rattle.cose_gate_program.proofs.Runs.{same_devices, shown, then_flushed}
 use Rattle.cose_gate_program.proofs.Tellings.{folded_then, ran_told, tells_then}
-use Rattle.cose_ruled.specs.Blocks.{Asked, Part, asks, block_by, part_of}
-use Rattle.cose_ruled.specs.Running.{block_at, blocks_of, Handed, AskedItems, RanAsking, BlockHanded}
+use Rattle.cose_ruled.specs.Blocks.{Asked, IsBlock, Part, asks, part_of}
+use Rattle.cose_ruled.specs.Running.{IsBlockAt, AreBlocks, Handed, AskedItems, RanAsking, BlockHanded}
 
 -- all of it is a beginning
 pub front_of_all : (a b : Option (List ℕ)) (xs : List ℕ) → Appends a b xs → AppendsFront a b xs
@@ -59,18 +60,25 @@ handed_flushed w old mid new blocks (no_memory taken) k p = flushed _ _ _ blocks
 handed_flushed w old mid new blocks (within next half) k p = flushed _ _ _ blocks k p
 
 -- a block was handed on
-pub block_sent : {W F T G : Type 0} (w : Writes W F) (t : Tells T) (out out' : W) (teller teller' teller'' : T) (entry : Entry) (block text : List ℕ) (sent : Result (Unit {0}) G) (u : Unit {0}) → sent ≡ Ok u
-    → OnOk sent (Appends (w.written out) (w.written out') block) → w.failed out' ≡ write_failures sent (w.failed out) → block ≡ text
-    → t.state teller' ≡ t.folded (t.state teller) (notice.Item entry) → t.state teller'' ≡ t.state teller' → BlockHanded w t out out' teller teller'' entry text (Ok tt)
-block_sent w t out out' teller teller' teller'' entry block text (Ok v) u same ok failed e told rests = (failed, subst (λ (z : List ℕ). Appends (w.written out) (w.written out') z) e ok, rests ∙ told)
-block_sent {G = G} w t out out' teller teller' teller'' entry block text (Err x) u same ok failed e told rests = absurd (let no : (let r : Result (Unit {0}) G = Err x in r) ≡ Ok u = same in cc)
+pub block_sent : {W F T G : Type 0} (w : Writes W F) (t : Tells T) (out out' : W) (teller teller' teller'' : T) (entry : Entry) (block : List ℕ) (IsIt : List ℕ → Type 0) (sent : Result (Unit {0}) G) (u : Unit {0}) → sent ≡ Ok u
+    → OnOk sent (Appends (w.written out) (w.written out') block) → w.failed out' ≡ write_failures sent (w.failed out) → IsIt block
+    → t.state teller' ≡ t.folded (t.state teller) (notice.Item entry) → t.state teller'' ≡ t.state teller' → BlockHanded w t out out' teller teller'' entry IsIt (Ok tt)
+block_sent w t out out' teller teller' teller'' entry block IsIt (Ok v) u same ok failed is told rests = (failed, (block, is, ok), rests ∙ told)
+block_sent {G = G} w t out out' teller teller' teller'' entry block IsIt (Err x) u same ok failed is told rests = absurd (let no : (let r : Result (Unit {0}) G = Err x in r) ≡ Ok u = same in cc)
 
 -- the writer failed in it
-pub block_torn : {W F T G : Type 0} (w : Writes W F) (t : Tells T) (out out' : W) (teller teller' : T) (entry : Entry) (block text : List ℕ) (sent : Result (Unit {0}) G) (x : G) → sent ≡ Err x
-    → OnErr sent (AppendsFront (w.written out) (w.written out') block) → w.failed out' ≡ write_failures sent (w.failed out) → block ≡ text
-    → t.state teller' ≡ t.folded (t.state teller) (notice.Item entry) → BlockHanded w t out out' teller teller' entry text (Err Write)
-block_torn w t out out' teller teller' entry block text (Err y) x same err failed e told = (failed, subst (λ (z : List ℕ). AppendsFront (w.written out) (w.written out') z) e err, told)
-block_torn {G = G} w t out out' teller teller' entry block text (Ok v) x same err failed e told = absurd (let no : (let r : Result (Unit {0}) G = Ok v in r) ≡ Err x = same in cc)
+pub block_torn : {W F T G : Type 0} (w : Writes W F) (t : Tells T) (out out' : W) (teller teller' : T) (entry : Entry) (block : List ℕ) (IsIt : List ℕ → Type 0) (sent : Result (Unit {0}) G) (x : G) → sent ≡ Err x
+    → OnErr sent (AppendsFront (w.written out) (w.written out') block) → w.failed out' ≡ write_failures sent (w.failed out) → IsIt block
+    → t.state teller' ≡ t.folded (t.state teller) (notice.Item entry) → BlockHanded w t out out' teller teller' entry IsIt (Err Write)
+block_torn w t out out' teller teller' entry block IsIt (Err y) x same err failed is told = (failed, (block, is, err), told)
+block_torn {G = G} w t out out' teller teller' entry block IsIt (Ok v) x same err failed is told = absurd (let no : (let r : Result (Unit {0}) G = Ok v in r) ≡ Err x = same in cc)
+
+-- the blocks of these steps, and that of one more
+blocks_then : (token : Option TermsFields) (keys : List KeyFields) (aad : List ℕ) (ss : List Step) (s : Step) (a b : List ℕ)
+    → AreBlocks token keys aad ss a → IsBlockAt token keys aad s b → AreBlocks token keys aad (ss ++ s ∷ []) (a ++ b)
+blocks_then token keys aad [] s a b are is = (b, [], ap (λ (z : List ℕ). z ++ b) are ∙ sym (append-nil b), is, refl)
+blocks_then token keys aad (x ∷ ss) s a b are is =
+    (are.0, are.1 ++ b, ap (λ (z : List ℕ). z ++ b) are.2 ∙ append_assoc are.0 are.1 b, are.3, blocks_then token keys aad ss s are.1 b are.4 is)
 
 -- where the last item of a sequence ends
 sequence_end : (k at : ℕ) (b : List ℕ) (is : List Item) (i : Item) → SequenceWithin k at b (is ++ i ∷ []) [] → at + length b ≡ i.offset + length i.bytes
@@ -117,7 +125,7 @@ module _ (limits : Bounds) (keys : List KeyFields) (aad : List ℕ) where
   goes_on ks counts old new r e g = subst (λ (z : List KeyFields). GoesOn is_end (rules limits z aad) counts old new r) e g
 
   -- how far it has come: these steps were made, and their blocks were written and their items told
-  pub record Come {W F T : Type 0} (w : Writes W F) (t : Tells T) (left : Option (List ℕ)) (now : GateState Asked Entry) (out out' : W) (teller teller' : T) (passed refused : ℕ) : Type 0 where
+  pub record Come {W F T : Type 0} (token : Option TermsFields) (w : Writes W F) (t : Tells T) (left : Option (List ℕ)) (now : GateState Asked Entry) (out out' : W) (teller teller' : T) (passed refused : ℕ) : Type 0 where
     pub first : GateState Asked Entry
     pub start : first.offset ≡ 0
     pub nothing : first.written ≡ None
@@ -125,21 +133,23 @@ module _ (limits : Bounds) (keys : List KeyFields) (aad : List ℕ) where
     pub done : List Step
     pub reached : Reached by first now passed refused done
     pub failed : w.failed out' ≡ w.failed out
-    pub written : Appends (w.written out) (w.written out') (blocks_of keys aad done)
+    pub blocks : List ℕ
+    pub are : AreBlocks token keys aad done blocks
+    pub written : Appends (w.written out) (w.written out') blocks
     pub told : tells t teller teller' (items_of done)
 
-  module _ {W F T : Type 0} (w : Writes W F) (t : Tells T) (left : Option (List ℕ)) where
+  module _ {W F T : Type 0} (token : Option TermsFields) (w : Writes W F) (t : Tells T) (left : Option (List ℕ)) where
     -- the judge forgets the questions about an item
     pub asked_same : (asked asked' : Asked) (last : Entry) (offset : ℕ) (rest : Option (List ℕ)) (out out' : W) (teller teller' : T) (passed refused : ℕ) → asked' ≡ asked
-        → Come w t left (sight asked last offset rest) out out' teller teller' passed refused → Come w t left (sight asked' last offset rest) out out' teller teller' passed refused
+        → Come token w t left (sight asked last offset rest) out out' teller teller' passed refused → Come token w t left (sight asked' last offset rest) out out' teller teller' passed refused
     asked_same asked asked' last offset rest out out' teller teller' passed refused e come =
-        subst (λ (z : Asked). Come w t left (sight z last offset rest) out out' teller teller' passed refused) (sym e) come
+        subst (λ (z : Asked). Come token w t left (sight z last offset rest) out out' teller teller' passed refused) (sym e) come
 
-    module _ (now : GateState Asked Entry) (out out' : W) (teller teller' : T) (passed refused : ℕ) (come : Come w t left now out out' teller teller' passed refused) where
+    module _ (now : GateState Asked Entry) (out out' : W) (teller teller' : T) (passed refused : ℕ) (come : Come token w t left now out out' teller teller' passed refused) where
       -- it is at its end, or the gate stopped
       pub at_end : (new : GateState Asked Entry) (r : Result Counts (GateFault InputFault)) → RanSteps is_end true by come.first new come.done r
           → (n n' : ℕ) (rest : Option (List ℕ)) → rest ≡ new.left → new.written ≡ None → n' ≡ n + reader_failures is_end r → w.failed out' ≡ w.failed out' + writer_failures r
-          → AskedItems w limits keys aad (devices w left n out) (devices w rest n' out') out out' r (tells t teller teller')
+          → AskedItems w limits token keys aad (devices w left n out) (devices w rest n' out') out out' r (tells t teller teller')
       at_end new r ran n n' rest same none reads writes = (
         record {
           run = ran.0.run;
@@ -149,7 +159,9 @@ module _ (limits : Bounds) (keys : List KeyFields) (aad : List ℕ) where
           told = subst (λ (ss : List Step). tells t teller teller' (items_of ss)) (sym ran.1) come.told;
           result_is = ran.0.returned;
         },
-        handed_all w out out' _ ran.0.run.ending (subst (λ (ss : List Step). Appends (w.written out) (w.written out') (blocks_of keys aad ss)) (sym ran.1) come.written),
+        come.blocks,
+        subst (λ (ss : List Step). AreBlocks token keys aad ss come.blocks) (sym ran.1) come.are,
+        handed_all w out out' come.blocks ran.0.run.ending come.written,
       )
 
       -- one step more, and what was told of its questions
@@ -176,23 +188,19 @@ module _ (limits : Bounds) (keys : List KeyFields) (aad : List ℕ) where
             (subst (λ (is : List Item). SequenceWithin limits.nesting come.first.offset moved.bytes is []) (map-append (λ (s : Step). s.item) come.done (far.0 ∷ [])) moved.has) in
             omega arith
 
-        block_is : (end : ℕ) → end ≡ new.offset → block_by new.state end (map (part_of keys) asked) ≡ block_at keys aad far.0
-        block_is end e =
-            ap (λ (z : Entry). block_by z end (map (part_of keys) asked)) last_is
-            ∙ ap (λ (n : ℕ). block_by far.0.entry n (map (part_of keys) asked)) (e ∙ end_is)
-
         -- what became of the block is that of the step's block
         block_handed : (before : List Part) (end : ℕ) (out'' : W) (teller'' : T) (r : Result (Unit {0}) (GateFault InputFault)) → now.told.keys ≡ keys → before ≡ now.told.told → end ≡ new.offset
-            → ((ps : List Part) → new.told.told ≡ before ++ ps → BlockHanded w t out' out'' teller' teller'' new.state (block_by new.state end ps) r)
-            → BlockHanded w t out' out'' teller' teller'' far.0.entry (block_at keys aad far.0) r
+            → ((ps : List Part) → new.told.told ≡ before ++ ps → BlockHanded w t out' out'' teller' teller'' new.state (IsBlock token new.state end ps) r)
+            → BlockHanded w t out' out'' teller' teller'' far.0.entry (IsBlockAt token keys aad far.0) r
         block_handed before end out'' teller'' r same here e f =
             let ps = map (part_of keys) asked in
             let told : new.told.told ≡ before ++ ps = told_about same ∙ ap (λ (z : List Part). z ++ ps) (sym here) in
-            subst (λ (z : Entry). BlockHanded w t out' out'' teller' teller'' z (block_at keys aad far.0) r) last_is
-            (subst (λ (z : List ℕ). BlockHanded w t out' out'' teller' teller'' new.state z r) (block_is end e) (f ps told))
+            subst (λ (z : Entry). BlockHanded w t out' out'' teller' teller'' z (IsBlock token z (far.0.item.offset + length far.0.item.bytes) ps) r) last_is
+            (subst (λ (n : ℕ). BlockHanded w t out' out'' teller' teller'' new.state (IsBlock token new.state n ps) r) (e ∙ end_is) (f ps told))
 
-        blocks_then : blocks_of keys aad (come.done ++ far.0 ∷ []) ≡ blocks_of keys aad come.done ++ block_at keys aad far.0
-        blocks_then = flat_then (block_at keys aad) come.done far.0
+        -- the blocks with this one
+        with_block : (block : List ℕ) → IsBlockAt token keys aad far.0 block → AreBlocks token keys aad (come.done ++ far.0 ∷ []) (come.blocks ++ block)
+        with_block block is = blocks_then token keys aad come.done far.0 come.blocks block come.are is
 
         told_then : (teller'' : T) → tells t teller' teller'' (notice.Item far.0.entry ∷ []) → tells t teller teller'' (items_of (come.done ++ far.0 ∷ []))
         told_then teller'' told =
@@ -203,8 +211,8 @@ module _ (limits : Bounds) (keys : List KeyFields) (aad : List ℕ) where
 
         -- it was handed on
         pub come_next : (before : List Part) (end : ℕ) (out'' : W) (teller'' : T) (u : Unit {0}) → now.told.keys ≡ keys → before ≡ now.told.told → end ≡ new.offset
-            → ((ps : List Part) → new.told.told ≡ before ++ ps → BlockHanded w t out' out'' teller' teller'' new.state (block_by new.state end ps) (Ok u))
-            → Come w t left new out out'' teller teller'' passed' refused'
+            → ((ps : List Part) → new.told.told ≡ before ++ ps → BlockHanded w t out' out'' teller' teller'' new.state (IsBlock token new.state end ps) (Ok u))
+            → Come token w t left new out out'' teller teller'' passed' refused'
         come_next before end out'' teller'' u same here e f =
             let h = block_handed before end out'' teller'' (Ok u) same here e f in
             record {
@@ -215,8 +223,9 @@ module _ (limits : Bounds) (keys : List KeyFields) (aad : List ℕ) where
               done = come.done ++ far.0 ∷ [];
               reached = far.1;
               failed = h.0 ∙ come.failed;
-              written = subst (λ (z : List ℕ). Appends (w.written out) (w.written out'') z) (sym blocks_then)
-                  (Appends-trans _ _ _ (blocks_of keys aad come.done) (block_at keys aad far.0) come.written h.1);
+              blocks = come.blocks ++ h.1.0;
+              are = with_block h.1.0 h.1.1;
+              written = Appends-trans _ _ _ come.blocks h.1.0 come.written h.1.2;
               told = told_then teller'' h.2;
             }
 
@@ -242,8 +251,8 @@ module _ (limits : Bounds) (keys : List KeyFields) (aad : List ℕ) where
 
         module _ (n n' : ℕ) (rest : Option (List ℕ)) (same : rest ≡ new.left) (none : new.written ≡ None) (reads : n' ≡ n) (some : 0 < passed' + refused') where
           -- the writer failed, or there is no memory for the block
-          stopped : (out'' : W) (teller'' : T) (fault : GateFault InputFault) → BlockHanded w t out' out'' teller' teller'' far.0.entry (block_at keys aad far.0) (Err fault)
-              → AskedItems w limits keys aad (devices w left n out) (devices w rest n' out'') out out'' (Err fault) (tells t teller teller'')
+          stopped : (out'' : W) (teller'' : T) (fault : GateFault InputFault) → BlockHanded w t out' out'' teller' teller'' far.0.entry (IsBlockAt token keys aad far.0) (Err fault)
+              → AskedItems w limits token keys aad (devices w left n out) (devices w rest n' out'') out out'' (Err fault) (tells t teller teller'')
           stopped out'' teller'' (Decode e) h = absurd h
           stopped out'' teller'' Write h =
               let ran = answer_unflushed by is_end true come.first new passed' refused' (come.done ++ far.0 ∷ []) refl some far.1 in (
@@ -255,8 +264,9 @@ module _ (limits : Bounds) (keys : List KeyFields) (aad : List ℕ) where
                   told = told_then teller'' h.2;
                   result_is = refl;
                 },
-                subst (λ (z : List ℕ). AppendsFront (w.written out) (w.written out'') z) (sym blocks_then)
-                    (front_of_second _ _ _ (blocks_of keys aad come.done) (block_at keys aad far.0) come.written h.1),
+                come.blocks ++ h.1.0,
+                with_block h.1.0 h.1.1,
+                front_of_second _ _ _ come.blocks h.1.0 come.written h.1.2,
               )
           stopped out'' teller'' Memory h = (
             record {
@@ -267,23 +277,27 @@ module _ (limits : Bounds) (keys : List KeyFields) (aad : List ℕ) where
               told = subst (λ (z : T). tells t teller z (items_of come.done)) (sym h.1) come.told;
               result_is = refl;
             },
-            subst (λ (z : W). Appends (w.written out) (w.written z) (blocks_of keys aad come.done)) (sym h.0) come.written,
+            come.blocks,
+            come.are,
+            subst (λ (z : W). Appends (w.written out) (w.written z) come.blocks) (sym h.0) come.written,
           )
 
           pub not_handed : (before : List Part) (end : ℕ) (out'' : W) (teller'' : T) (fault : GateFault InputFault) → now.told.keys ≡ keys → before ≡ now.told.told → end ≡ new.offset
-              → ((ps : List Part) → new.told.told ≡ before ++ ps → BlockHanded w t out' out'' teller' teller'' new.state (block_by new.state end ps) (Err fault))
-              → AskedItems w limits keys aad (devices w left n out) (devices w rest n' out'') out out'' (Err fault) (tells t teller teller'')
+              → ((ps : List Part) → new.told.told ≡ before ++ ps → BlockHanded w t out' out'' teller' teller'' new.state (IsBlock token new.state end ps) (Err fault))
+              → AskedItems w limits token keys aad (devices w left n out) (devices w rest n' out'') out out'' (Err fault) (tells t teller teller'')
           not_handed before end out'' teller'' fault keys_same here e f = stopped out'' teller'' fault (block_handed before end out'' teller'' (Err fault) keys_same here e f)
 
 -- the run after a flush, and the last notice
-pub told_end : {W F T X G : Type 0} (w : Writes W F) (t : Tells T) (limits : Bounds) (keys : List KeyFields) (aad : List ℕ) (old mid new : Devices) (out out' out'' : W) (teller teller' teller'' : T)
-    (asked : Result Counts (GateFault InputFault)) (answer : Result X G) (handed : Bool) (last : Notice) (status : ℕ) → AskedItems w limits keys aad old mid out out' asked (tells t teller teller')
+pub told_end : {W F T X G : Type 0} (w : Writes W F) (t : Tells T) (limits : Bounds) (token : Option TermsFields) (keys : List KeyFields) (aad : List ℕ) (old mid new : Devices) (out out' out'' : W) (teller teller' teller'' : T)
+    (asked : Result Counts (GateFault InputFault)) (answer : Result X G) (handed : Bool) (last : Notice) (status : ℕ) → AskedItems w limits token keys aad old mid out out' asked (tells t teller teller')
     → new.left ≡ mid.left → Keeps mid.written new.written → new.read_failures ≡ mid.read_failures → new.write_failures ≡ write_failures answer mid.write_failures
     → Keeps (w.written out') (w.written out'') → handed ≡ is_ok answer → last ≡ last_of asked handed → t.state teller'' ≡ t.folded (t.state teller') last → status ≡ status_at last
-    → RanAsking w limits keys aad old new out out'' status (tells t teller teller'')
-told_end w t limits keys aad old mid new out out' out'' teller teller' teller'' asked answer handed last status items left kept reads failed keeps is_handed is told is_status =
+    → RanAsking w limits token keys aad old new out out'' status (tells t teller teller'')
+told_end w t limits token keys aad old mid new out out' out'' teller teller' teller'' asked answer handed last status items left kept reads failed keeps is_handed is told is_status =
     let gated = items.0 in
     let shows = then_flushed answer limits (asks keys) aad old mid new gated.run gated.shows left kept reads failed in (
       ran_told t.folded (t.state teller) (t.state teller') (t.state teller'') asked (is_ok answer) handed last gated.run shows tt gated.told gated.result_is is_handed is told is_status,
-      handed_flushed w out out' out'' (blocks_of keys aad gated.run.done) gated.run.ending keeps items.1,
+      items.1,
+      items.2,
+      handed_flushed w out out' out'' items.1 gated.run.ending keeps items.3,
     )

@@ -1,10 +1,11 @@
 -- What is written of an item, so that its signatures can be checked: which of them, over which
 -- bytes, by which algorithm and under which keys, or why none. All numbers are eight bytes, the
 -- lowest first.
-use Rattle.std.specs.Prelude.{ℕ, ◌-◌, List, [], ◌∷◌, ◌++◌, length, take, drop, reverse, map, filter, flat_map, nat_eq, codes, Bool, true, false, Option, None, Some, Result, Ok, Err}
+use Rattle.std.specs.Prelude.{◌≡◌, ℕ, ◌-◌, List, [], ◌∷◌, ◌++◌, length, take, drop, reverse, map, filter, flat_map, nat_eq, codes, Bool, true, false, Option, None, Some, Result, Ok, Err}
 use Rattle.std.specs.Int.{w64, cast_unsigned}
 use Rattle.std.specs.List.{common_prefix_len, enumerate_from}
 use Rattle.coset_keys.specs.Fields.{KeyFields}
+use Rattle.cose_rules.specs.Claims.{TermsFields}
 use Rattle.cose_rules.specs.Keys.{fits}
 use Rattle.cose_rules.specs.RefusalTexts.{refusal_text}
 use Rattle.cose_rules.specs.Rule.{RulingFields, ask, refuse}
@@ -15,12 +16,13 @@ use Rattle.cose_gate_core.specs.ReasonNames.{refusal_name}
 use Rattle.cose_gate_core.specs.declared.about.MessageKind.{MessageKind}
 use Rattle.cose_gate_core.specs.declared.report.Entry.{Entry}
 use Rattle.cose_gate_core.specs.declared.report.Refusal.TheVariants as gate
-use Rattle.cose_gate_core.specs.declared.report.Verdict.{Verdict}
-use Rattle.cose_gate_core.specs.declared.report.Verdict.TheVariants.{Passed, Refused}
 use Rattle.cose_gate_program.specs.Lines.{cose_text}
 use Rattle.cose_gate_records.specs.Digests.{digest_of}
 use Rattle.cose_gate_records.specs.Framing.{eight, framed}
 use Rattle.cose_ruled.specs.Judging.{ruled}
+use Rattle.cose_ruled.specs.Tokens.{IsOutcome, token_text}
+use Rattle.cose_ruled.specs.declared.token.Outcome.{Outcome}
+use Rattle.cose_ruled.specs.declared.token.Outcome.TheVariants.{Passed, Refused, NoToken}
 
 -- whether the rules allow a question under these keys
 abbrev pub is_ask : RulingFields → Bool
@@ -97,39 +99,44 @@ question_text base (shown about covered signed) =
 question_text base (refused why) = []
 
 -- why the rules refuse a question, and why an item is refused: what is wrong with its shape, or why
--- the rules refuse one of its questions
+-- the rules refuse one of its questions, or why it isn't a token that passes
 abbrev pub why_text : Part → List ℕ
 why_text (shown about covered signed) = []
 why_text (refused why) = refusal_text why
 
-abbrev pub why_by : Verdict → List Part → List ℕ
+abbrev pub why_by : Outcome → List Part → List ℕ
 why_by (Refused (gate.Shape e)) ps = cose_text e
-why_by v ps = flat_map why_text ps
+why_by (NoToken why) ps = token_text why
+why_by outcome ps = flat_map why_text ps
 
--- the verdict, as on the item's line
-abbrev pub verdict_text : Verdict → List ℕ
+-- the verdict, as on the item's line if it isn't that on a token
+abbrev pub verdict_text : Outcome → List ℕ
 verdict_text Passed = codes "passed"
 verdict_text (Refused r) = codes "refused: " ++ refusal_name r
+verdict_text (NoToken why) = codes "refused: Claims"
 
--- the covered bytes of the first question, and the questions, each after its length, if the rules
--- allow all; else no bytes and no questions
-abbrev pub body_by : Verdict → List Part → List ℕ
+-- the covered bytes of the first question, and the questions, each after its length, if the item
+-- passed; else no bytes and no questions
+abbrev pub body_by : Outcome → List Part → List ℕ
 body_by Passed ps = framed (base_of ps) ++ flat_map (question_text (base_of ps)) ps
-body_by (Refused r) ps = framed []
+body_by outcome ps = framed []
 
--- the block of an item with this entry, which ends at this offset, and about which these questions
--- were asked, after its length: its number, where it begins and ends, how many questions were asked,
--- the verdict, why it is refused, and the questions
-abbrev pub text_by : Entry → ℕ → List Part → List ℕ
-text_by e end ps =
+-- the block of an item with this entry, which ends at this offset, of which this is said, and about
+-- which these questions were asked, after its length: its number, where it begins and ends, how many
+-- questions were asked, the verdict, why it is refused, and the questions
+abbrev pub text_by : Entry → ℕ → Outcome → List Part → List ℕ
+text_by e end outcome ps =
     eight e.number ++ (eight e.offset ++ (eight end ++ (eight (length ps)
-    ++ (framed (verdict_text e.verdict) ++ (framed (why_by e.verdict ps) ++ body_by e.verdict ps)))))
+    ++ (framed (verdict_text outcome) ++ (framed (why_by outcome ps) ++ body_by outcome ps)))))
 
-abbrev pub block_by : Entry → ℕ → List Part → List ℕ
-block_by e end ps = framed (text_by e end ps)
+abbrev pub block_by : Entry → ℕ → Outcome → List Part → List ℕ
+block_by e end outcome ps = framed (text_by e end outcome ps)
 
-abbrev pub block_of : List KeyFields → Entry → ℕ → List Question → List ℕ
-block_of keys e end qs = block_by e end (map (part_of keys) qs)
+-- the block of an item, which by its first question is a token that passes, if it has to be one
+abbrev pub IsBlock : Option TermsFields → Entry → ℕ → List Part → List ℕ → Type 0
+IsBlock token e end ps block =
+    (outcome : Outcome) × IsOutcome token e.verdict (base_of ps) outcome
+    × (block ≡ block_by e end outcome ps)
 
 -- what a judge keeps: the keys, and what was told of all questions so far
 pub record Asked : Type 0 where

@@ -3,3 +3,4 @@ pub mod Blocks
 pub mod Judging
 pub mod Running
 pub mod Told
+pub mod Tokens

@@ -1,8 +1,9 @@
 //! A judge that asks by the rules.
-ghost use Rattle.std.specs.Prelude.{◌≡◌, List, [], ◌++◌, IfOk, map};
+ghost use Rattle.std.specs.Prelude.{◌≡◌, List, [], ◌++◌, IfOk, map, option_map};
 ghost use Rattle.coset_keys.specs.View.{key_view};
+ghost use Rattle.cose_rules.specs.TokenView.{terms_view};
 ghost use Rattle.cose_ruled.specs.Asking.{IsHeld, asked_by, item_of, pieces_of};
-ghost use Rattle.cose_ruled.specs.Blocks.{Asked, Item, Part, asks, block_by, part_of};
+ghost use Rattle.cose_ruled.specs.Blocks.{Asked, IsBlock, Item, Part, asks, part_of};
 
 use crate::about::about_text;
 use crate::questions::Questions;
@@ -10,7 +11,7 @@ use crate::told::{Question, Told};
 use ciborium_ll::log::Log;
 use cose_gate_core::{About, Entry, Judge};
 use cose_gate_records::Held;
-use cose_rules::Refusal;
+use cose_rules::{Refusal, TokenTerms};
 use coset_keys::CoseKey;
 use std::alloc::{AllocError, Global};
 use std::mem;
@@ -56,16 +57,23 @@ impl<'a> RuledAsker<'a> {
         self.questions = Questions::new(self.alloc);
     }
 
-    /// The block of the item at hand, which has this entry and ends at this offset.
+    /// The block of the item at hand, which has this entry and ends at this offset. With `token` it
+    /// has to be a token that passes by these terms, too.
     ///
     /// # Errors
     /// Only if out of memory, also earlier for one of its questions.
-    pub fn block(&self, alloc: Global, entry: &Entry, end: usize) -> Result<Vec<u8>, AllocError>
+    pub fn block(
+        &self,
+        alloc: Global,
+        entry: &Entry,
+        end: usize,
+        token: Option<TokenTerms<'_>>,
+    ) -> Result<Vec<u8>, AllocError>
         ensures { IfOk result (λ block. (ps : List Part)
             → (asked_by self.now).told ≡ (item_of self.now).before ++ ps
-            → block.items ≡ block_by entry.now end ps) }
+            → IsBlock (option_map terms_view token.entry) entry.now end ps block.items) }
     {
-        self.questions.block(alloc, entry, end)
+        self.questions.block(alloc, entry, end, token)
     }
 }
 

@@ -1,17 +1,19 @@
 //! What is kept of the questions about an item.
-ghost use Rattle.std.specs.Prelude.{◌≡◌, ◌++◌, [], ◌∷◌, IfOk, OnOk, flat_map, map};
+ghost use Rattle.std.specs.Prelude.{◌≡◌, ◌++◌, [], ◌∷◌, IfOk, OnOk, flat_map, map, option_map};
 ghost use Rattle.std.specs.Option.{unwrap_or};
 ghost use Rattle.cose_rules.specs.RefusalTexts.{refusal_text};
+ghost use Rattle.cose_rules.specs.TokenView.{terms_view};
 ghost use Rattle.cose_gate_records.specs.Framing.{framed};
 ghost use Rattle.cose_ruled.specs.Blocks as spec;
 ghost use Rattle.cose_ruled.specs.Told.{AreKept, AreKept-prop, bytes_in, part_view, parts_in};
 
 use crate::beside::append_beside;
+use crate::token::{Outcome, outcome_of};
 use crate::told::{Question, Told};
 use ciborium_ll::log::Log;
-use cose_gate_core::{Entry, Verdict};
+use cose_gate_core::{Entry, Refusal};
 use cose_gate_records::{append, eight};
-use cose_rules::Refusal;
+use cose_rules::{Refusal as Unasked, TokenTerms};
 use std::alloc::{AllocError, Global};
 
 /// What the block of the item takes from its questions: that of the questions that the rules allow,
@@ -96,7 +98,7 @@ fn question_text(alloc: Global, base: &[u8], question: Question<'_>) -> Result<V
 }
 
 /// Appends why the rules refuse a question.
-fn append_refusal(why: &mut Vec<u8>, refusal: Refusal) -> Result<(), AllocError>
+fn append_refusal(why: &mut Vec<u8>, refusal: Unasked) -> Result<(), AllocError>
     ensures { OnOk result (why.new.items ≡ why.old.items ++ refusal_text refusal) }
 {
     let text = format!(in *why.allocator(); "{refusal}")?;
@@ -125,19 +127,20 @@ fn append_all(text: &mut Vec<u8>, texts: &[Vec<u8>]) -> Result<(), AllocError>
     Ok(())
 }
 
-/// The verdict in words.
-fn append_verdict(text: &mut Vec<u8>, verdict: Verdict) -> Result<(), AllocError>
+/// What is said of the item in words.
+fn append_verdict(text: &mut Vec<u8>, outcome: Outcome) -> Result<(), AllocError>
     ensures { OnOk result («text».new.items
-        ≡ «text».old.items ++ framed (spec.verdict_text verdict)) }
+        ≡ «text».old.items ++ framed (spec.verdict_text outcome)) }
 {
-    match verdict {
-        Verdict::Passed => append(text, b"passed"),
-        Verdict::Refused(refusal) => {
+    match outcome {
+        Outcome::Passed => append(text, b"passed"),
+        Outcome::Refused(refusal) => {
             let mut words = Vec::new(*text.allocator());
             words.extend_from_slice(b"refused: ")?;
             words.extend_from_slice(refusal.name().as_bytes())?;
             append(text, &words)
         }
+        Outcome::NoToken(_) => append(text, b"refused: Claims"),
     }
 }
 
@@ -189,56 +192,71 @@ impl Kept {
         }
     }
 
-    /// Appends why the item is refused, if that is its shape or the rules refuse a question.
-    fn append_reason(&self, text: &mut Vec<u8>, verdict: Verdict) -> Result<(), AllocError>
+    /// Appends why the item is refused, if that is its shape, or the rules refuse a question, or it
+    /// is no token that passes.
+    fn append_reason(&self, text: &mut Vec<u8>, outcome: Outcome) -> Result<(), AllocError>
         ensures { OnOk result («text».new.items
-            ≡ «text».old.items ++ framed (spec.why_by verdict (parts_in self.now.told))) }
+            ≡ «text».old.items ++ framed (spec.why_by outcome (parts_in self.now.told))) }
     {
-        match verdict {
-            Verdict::Refused(cose_gate_core::Refusal::Shape(error)) => {
+        match outcome {
+            Outcome::Refused(Refusal::Shape(error)) => {
                 let words = format!(in *text.allocator(); "{error}")?;
                 append(text, words.as_bytes())
             }
+            Outcome::NoToken(refusal) => append(text, refusal.words().as_bytes()),
             _ => append(text, &self.why),
         }
     }
 
-    /// Appends the first question's covered bytes and the questions, if the rules allow all.
-    fn append_body(&self, text: &mut Vec<u8>, verdict: Verdict) -> Result<(), AllocError>
+    /// Appends the first question's covered bytes and the questions, if the item passed.
+    fn append_body(&self, text: &mut Vec<u8>, outcome: Outcome) -> Result<(), AllocError>
         ensures { OnOk result («text».new.items
-            ≡ «text».old.items ++ spec.body_by verdict (parts_in self.now.told)) }
+            ≡ «text».old.items ++ spec.body_by outcome (parts_in self.now.told)) }
     {
-        match verdict {
-            Verdict::Passed => {
+        match outcome {
+            Outcome::Passed => {
                 append(text, self.base())?;
                 append_all(text, &self.texts)
             }
-            Verdict::Refused(_) => append(text, &[]),
+            Outcome::Refused(_) | Outcome::NoToken(_) => append(text, &[]),
         }
     }
 
-    /// The block of the item, without its length.
-    fn text(&self, alloc: Global, entry: &Entry, end: usize) -> Result<Vec<u8>, AllocError>
+    /// The block of the item, of which this is said, without its length.
+    fn text(
+        &self,
+        alloc: Global,
+        entry: &Entry,
+        end: usize,
+        outcome: Outcome,
+    ) -> Result<Vec<u8>, AllocError>
         ensures { IfOk result (λ text. text.items
-            ≡ spec.text_by entry.now end (parts_in self.now.told)) }
+            ≡ spec.text_by entry.now end outcome (parts_in self.now.told)) }
     {
         let mut text = Vec::new(alloc);
         text.extend_from_slice(&eight(entry.number))?;
         text.extend_from_slice(&eight(entry.offset))?;
         text.extend_from_slice(&eight(end))?;
         text.extend_from_slice(&eight(self.texts.len()))?;
-        append_verdict(&mut text, entry.verdict)?;
-        self.append_reason(&mut text, entry.verdict)?;
-        self.append_body(&mut text, entry.verdict)?;
+        append_verdict(&mut text, outcome)?;
+        self.append_reason(&mut text, outcome)?;
+        self.append_body(&mut text, outcome)?;
         Ok(text)
     }
 
     /// The block of the item.
-    fn block(&self, alloc: Global, entry: &Entry, end: usize) -> Result<Vec<u8>, AllocError>
-        ensures { IfOk result (λ text. text.items
-            ≡ spec.block_by entry.now end (parts_in self.now.told)) }
+    fn block(
+        &self,
+        alloc: Global,
+        entry: &Entry,
+        end: usize,
+        token: Option<TokenTerms<'_>>,
+    ) -> Result<Vec<u8>, AllocError>
+        ensures { IfOk result (λ text. spec.IsBlock (option_map terms_view token.entry)
+            entry.now end (parts_in self.now.told) text.items) }
     {
-        let text = self.text(alloc, entry, end)?;
+        let outcome = outcome_of(alloc, token, entry.verdict, self.base())?;
+        let text = self.text(alloc, entry, end, outcome)?;
         after_length(alloc, &text)
     }
 }
@@ -296,12 +314,13 @@ impl Questions {
         alloc: Global,
         entry: &Entry,
         end: usize,
+        token: Option<TokenTerms<'_>>,
     ) -> Result<Vec<u8>, AllocError>
-        ensures { IfOk result (λ text. text.items
-            ≡ spec.block_by entry.now end (parts_in (log_of self.now))) }
+        ensures { IfOk result (λ text. spec.IsBlock (option_map terms_view token.entry)
+            entry.now end (parts_in (log_of self.now)) text.items) }
     {
         match self {
-            Questions::Whole(kept) => kept.block(alloc, entry, end),
+            Questions::Whole(kept) => kept.block(alloc, entry, end, token),
             Questions::Lost(_) => Err(AllocError),
         }
     }

@@ -51,28 +51,15 @@ impl<'a> Asking<'a> {
         let Some(first) = asked.first() else {
             return Ok(None);
         };
-        match judged(alloc, aad, item, &mut self.judge)? {
-            Some(Verdict::Passed) => Ok(Some(Answer::Yes)),
-            Some(Verdict::Refused(Refusal::Judged(_))) => {
+        let mut out = Comparing::new(&[]);
+        match gate_item(alloc, aad, item, &mut out, &mut self.judge)? {
+            Ok(Some(Verdict::Passed)) => Ok(Some(Answer::Yes)),
+            Ok(Some(Verdict::Refused(Refusal::Judged(_)))) => {
                 let why = why_not(alloc, &self.book, aad, item, first)?;
                 Ok(Some(Answer::No(why)))
             }
             _ => Ok(None),
         }
-    }
-}
-
-/// What the gate says of an item with this judge.
-fn judged(
-    alloc: Global,
-    aad: &[u8],
-    item: &[u8],
-    judge: &mut HmacJudge<'_>,
-) -> Result<Option<Verdict>, Stop> {
-    let mut out = Comparing::new(&[]);
-    match gate_item(alloc, aad, item, &mut out, judge)? {
-        Ok(verdict) => Ok(verdict),
-        Err(_) => Ok(None),
     }
 }
 

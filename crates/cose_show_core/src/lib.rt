@@ -4,11 +4,12 @@
 
 mod asking;
 mod cut;
-mod damage;
 mod gated;
+mod lines;
 mod looks;
 mod object;
 mod printer;
+mod said;
 mod shape;
 mod show;
 mod source;

@@ -70,10 +70,10 @@ fn wrong_in(alloc: Global, part: Part, item: &[u8]) -> Result<Option<WrongPart>,
     match part {
         Part::Signatures => wrong_in_list(alloc, "signature", item),
         Part::Recipients => wrong_in_list(alloc, "recipient", item),
-        Part::Signature => wrong_bytes(alloc, "signature", item),
-        Part::Tag => wrong_bytes(alloc, "tag", item),
-        Part::Payload => wrong_content(alloc, "payload", item),
-        Part::Ciphertext => wrong_content(alloc, "ciphertext", item),
+        Part::Signature => wrong_bytes(alloc, "signature", false, item),
+        Part::Tag => wrong_bytes(alloc, "tag", false, item),
+        Part::Payload => wrong_bytes(alloc, "payload", true, item),
+        Part::Ciphertext => wrong_bytes(alloc, "ciphertext", true, item),
     }
 }
 
@@ -94,22 +94,23 @@ fn named(alloc: Global, name: &str, fault: CoseError) -> Result<Option<WrongPart
     Ok(Some(WrongPart { name, fault }))
 }
 
-fn wrong_bytes(alloc: Global, name: &str, item: &[u8]) -> Result<Option<WrongPart>, Stop> {
-    match value_of(alloc, item)? {
-        Some(value) => match value.try_as_bytes() {
-            Ok(_) => Ok(None),
-            Err(fault) => named(alloc, name, fault),
-        },
-        None => Ok(None),
-    }
-}
-
-fn wrong_content(alloc: Global, name: &str, item: &[u8]) -> Result<Option<WrongPart>, Stop> {
-    match value_of(alloc, item)? {
-        Some(value) => match value.try_as_bytes_or_nil("bstr") {
-            Ok(_) => Ok(None),
-            Err(fault) => named(alloc, name, fault),
-        },
+/// What is wrong in a byte string; a content may be null.
+fn wrong_bytes(
+    alloc: Global,
+    name: &str,
+    is_content: bool,
+    item: &[u8],
+) -> Result<Option<WrongPart>, Stop> {
+    let Some(value) = value_of(alloc, item)? else {
+        return Ok(None);
+    };
+    let fault = if is_content {
+        value.try_as_bytes_or_nil("bstr").err()
+    } else {
+        value.try_as_bytes().err()
+    };
+    match fault {
+        Some(fault) => named(alloc, name, fault),
         None => Ok(None),
     }
 }

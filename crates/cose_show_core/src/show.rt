@@ -1,30 +1,21 @@
 //! The items, one after another.
 use crate::asking::Asking;
-use crate::damage::show_damage;
-use crate::object::{write_damage, write_object};
+use crate::said::{AROUND, Said, Says};
 use crate::source::{Found, Source};
-use crate::verdict::show_verdict;
+use crate::verdict::say_verdict;
 use crate::words::Options;
-use cbor_diag::Page;
-use cose_notation::{
-    Look, begin_line, is_message, keys_in, mask, show_keys, show_message, write_len, write_shown,
-};
+use cbor_diag::Fault;
+use cose_notation::{Json, Look, Text, keys_in, mask, show_keys, show_message};
 use cose_reasons::{Stop, read_keys};
 use std::alloc::Global;
 use std::io::BufReader;
 use std::{fmt, io};
 
-/// What is asked for beside the items.
+/// What is asked for.
 #[derive(Clone, Copy)]
 pub struct Request<'a> {
-    /// The covered bytes.
-    pub questions: bool,
-    /// What keeps a message from being its canonical encoding.
-    pub strict: bool,
-    /// JSON.
-    pub json: bool,
-    /// How much of an item.
-    pub look: Look,
+    /// As the command line says it.
+    pub options: Options<'a>,
     /// The external data.
     pub aad: &'a [u8],
 }
@@ -61,37 +52,46 @@ pub fn show_as<R: io::Read + Drop, P: fmt::Write>(
         Err(_) => return Err(Stop::NotHex),
     };
     let request = Request {
-        questions: options.questions,
-        strict: options.strict,
-        json: options.json,
-        look: Look {
-            full: options.full,
-            secrets: options.secrets,
-        },
+        options,
         aad: aad.as_slice(),
     };
     let mut source = Source::new(alloc, input);
-    let mut page = Page::new(out);
-    let Some(bytes) = keys else {
-        return show(alloc, request, &mut None, &mut source, &mut page);
+    let set = match keys {
+        Some(bytes) => Some(read_keys(alloc, bytes)?),
+        None => None,
     };
-    let set = read_keys(alloc, bytes)?;
-    let mut asking = Some(Asking::new(alloc, request.look, &set)?);
-    show(alloc, request, &mut asking, &mut source, &mut page)
+    let mut asking = match &set {
+        Some(set) => Some(Asking::new(alloc, options.look, set)?),
+        None => None,
+    };
+    if options.json {
+        show(
+            alloc,
+            request,
+            &mut asking,
+            &mut source,
+            &mut Json::new(alloc, out),
+        )
+    } else {
+        let mut text = Text::new(alloc, options.look, out);
+        show(alloc, request, &mut asking, &mut source, &mut text)
+    }
 }
 
-fn show<R: io::Read + Drop, P: fmt::Write>(
+fn show<R: io::Read + Drop, S: Says>(
     alloc: Global,
     request: Request<'_>,
     asking: &mut Option<Asking<'_>>,
     source: &mut Source<R>,
-    page: &mut Page<'_, P>,
+    to: &mut S,
 ) -> Result<Option<u64>, Stop> {
+    let look = request.options.look;
     let mut stopped = None;
     for number in 1..u64::MAX {
         let found = source.find()?;
-        if number == 1 && !request.look.secrets && source.is_text()? {
-            return show_text(request.json, source, page);
+        if number == 1 && !look.secrets && source.is_text()? {
+            say_looks(source, to)?;
+            return Err(Stop::Text);
         }
         match found {
             Found::Item(len) => {
@@ -101,91 +101,63 @@ fn show<R: io::Read + Drop, P: fmt::Write>(
                     bytes: source.held().get(..len).unwrap_or(&[]),
                     stopped,
                 };
-                if show_item(alloc, request, asking, item, page)? {
+                to.said(Said::Item(item))?;
+                show_content(alloc, look, item.bytes, to)?;
+                if say_verdict(alloc, request, asking, item, to)? {
                     stopped = Some(number);
                 }
+                to.said(Said::End)?;
                 source.leave(len);
             }
-            Found::End if request.json => return Ok(stopped),
             Found::End => {
-                show_looks(source, page)?;
-                return Ok(stopped);
-            }
-            Found::Damaged(fault) if request.json => {
-                return write_damage(alloc, request.look, number, fault, source, page);
+                say_looks(source, to)?;
+                break;
             }
             Found::Damaged(fault) => {
-                return show_damage(alloc, request.look, number, fault, source, page);
+                show_damage(look, number, fault, source, to)?;
+                return Err(Stop::of_fault(fault, source.offset()));
             }
         }
     }
     Ok(stopped)
 }
 
-/// Shows of an input that looks like text only that.
-fn show_text<R: io::Read + Drop, P: fmt::Write>(
-    json: bool,
-    source: &Source<R>,
-    page: &mut Page<'_, P>,
-) -> Result<Option<u64>, Stop> {
-    if !json {
-        show_looks(source, page)?;
-    }
-    Err(Stop::Text)
-}
-
-/// Shows what an input looks like that isn't binary.
-pub fn show_looks<R: io::Read + Drop, P: fmt::Write>(
-    source: &Source<R>,
-    page: &mut Page<'_, P>,
-) -> Result<(), Stop> {
+/// Says what an input looks like that isn't binary.
+fn say_looks<R: io::Read + Drop, S: Says>(source: &Source<R>, to: &mut S) -> Result<(), Stop> {
     if let Some(name) = source.looks() {
-        writeln!(page, "the input looks like {name}, and has to be binary");
+        to.said(Said::Looks(name))?;
     }
-    page.end()?;
     Ok(())
-}
-
-/// Shows one item, and says whether the gate stops at it.
-fn show_item<P: fmt::Write>(
-    alloc: Global,
-    request: Request<'_>,
-    asking: &mut Option<Asking<'_>>,
-    item: Item<'_>,
-    page: &mut Page<'_, P>,
-) -> Result<bool, Stop> {
-    if request.json {
-        return write_object(alloc, request, asking, item, page);
-    }
-    let (number, offset) = (item.number, item.offset);
-    write!(page, "item {number} at {offset}, ");
-    write_len(item.bytes.len(), page);
-    page.write_str("\n");
-    show_content(alloc, request.look, item.bytes, page)?;
-    show_verdict(alloc, request, asking, item, page)
 }
 
 /// Shows what an item holds: keys, the parts of a message, or its notation.
-fn show_content<P: fmt::Write>(
-    alloc: Global,
-    look: Look,
-    item: &[u8],
-    page: &mut Page<'_, P>,
-) -> Result<(), Stop> {
+fn show_content<S: Says>(alloc: Global, look: Look, item: &[u8], to: &mut S) -> Result<(), Stop> {
     let masked = mask(alloc, look, item)?;
     let item = masked.view();
     let keys = keys_in(alloc, item.bytes())?;
-    let is_shown_by_parts = keys.is_some() || is_message(item);
-    let may_show = look.secrets || keys.is_none();
-    if may_show && (look.full || !is_shown_by_parts) {
-        begin_line(1, page);
-        write_shown(alloc, look.lines(), item, 1, page);
-        page.write_str("\n");
-    }
+    to.said(Said::Content(item, keys))?;
     match keys {
-        Some(keys) => show_keys(alloc, look, keys, item, page),
-        None => show_message(alloc, look, item, page),
+        Some(keys) => show_keys(alloc, keys, item, to)?,
+        None => show_message(alloc, item, to)?,
     }
-    page.end()?;
     Ok(())
+}
+
+/// Shows the fault of the item at hand, and if secrets are asked for what could be read of it, and
+/// the bytes around the fault.
+fn show_damage<R: io::Read + Drop, S: Says>(
+    look: Look,
+    number: u64,
+    fault: Fault,
+    source: &mut Source<R>,
+    to: &mut S,
+) -> Result<(), Stop> {
+    let offset = source.offset();
+    to.said(Said::Damaged(number, offset))?;
+    if !look.secrets {
+        return Ok(to.said(Said::Fault(fault, offset, None))?);
+    }
+    source.hold(fault.at.saturating_add(AROUND))?;
+    to.said(Said::Fault(fault, offset, Some(source.held())))?;
+    say_looks(source, to)
 }

@@ -1,4 +1,5 @@
 //! The arguments of the command line.
+use cose_notation::Look;
 use std::slice;
 
 /// The lines for arguments that it doesn't know.
@@ -57,10 +58,8 @@ pub struct Options<'a> {
     pub strict: bool,
     /// As JSON.
     pub json: bool,
-    /// With strings whole, and the notation of messages.
-    pub full: bool,
-    /// With the secrets of keys.
-    pub secrets: bool,
+    /// With strings whole and the notation of messages, and with the secrets of keys.
+    pub look: Look,
     /// The external data in hex.
     pub aad: &'a str,
     /// The file with the keys of the judge, if it is to be asked.
@@ -86,8 +85,7 @@ pub fn read_words(all: &[String]) -> Option<Words<'_>> {
         questions: false,
         strict: false,
         json: false,
-        full: false,
-        secrets: false,
+        look: Look::least(),
         aad: "",
         keys: None,
         cut: None,
@@ -118,8 +116,8 @@ fn read_word<'a>(
         "--questions" => options.questions = true,
         "--strict" => options.strict = true,
         "--json" => options.json = true,
-        "--full" => options.full = true,
-        "--secrets" => options.secrets = true,
+        "--full" => options.look.full = true,
+        "--secrets" => options.look.secrets = true,
         "--keys" => options.keys = Some(words.next()?.as_str()),
         "--aad" => options.aad = words.next()?.as_str(),
         "--cut" => options.cut = Some(read_cut(words)?),

@@ -1,5 +1,3 @@
-pub mod Going
-pub mod Steps
 pub mod Takes
 pub mod Readable
 pub mod TakenItem

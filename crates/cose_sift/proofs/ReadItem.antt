@@ -14,7 +14,7 @@ use Rattle.cose_sift.specs.declared.items.Halt.{Halt}
 use Rattle.cose_sift.specs.declared.items.Halt.TheVariants as halt
 use Rattle.cose_sift.specs.declared.taking.Stop.TheVariants as stop
 use Rattle.cose_sift.specs.Reading.{IsReadable, Unread}
-use Rattle.cose_sift.specs.Walking.{IsOne}
+use Rattle.cbor_walk.specs.Walking.{IsOne}
 use Rattle.cose_sift.proofs.Readable.{spelled}
 
 pub read_whole : (b : List ℕ) (new : Option (List ℕ)) (o o' : ℕ) (v : Tree) → IsOne b → Moves (Some b) new o o' (λ x. Reads x nesting v) → IsReadable b

@@ -8,7 +8,7 @@ use Rattle.cose_sift.specs.Sifting.{Sifted, nothing, kept, dropped, AsReceived, 
 use Rattle.cose_sift.specs.declared.sifting.Options.{Options}
 use Rattle.cose_sift.specs.Reading.{IsReadable}
 use Rattle.cose_sift.specs.Untagging.{Content}
-use Rattle.cose_sift.proofs.Going.{regroup}
+use Rattle.cbor_walk.proofs.Going.{regroup}
 use Rattle.cose_sift.proofs.Readable.{spelled}
 use Rattle.cose_sift.proofs.Untagged.{not_empty}
 

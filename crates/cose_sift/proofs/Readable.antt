@@ -7,10 +7,10 @@ use Rattle.ciborium_ll.specs.declared.hdr.Header.{Header}
 use Rattle.ciborium_ll.specs.declared.hdr.Header.TheVariants.{Positive, Negative, Float, Simple, Tag, Bytes, Text, Array, Map}
 use Rattle.ciborium_value.specs.Tree.{Tree, integer, bytes, text, array, map, tag, simple, float, Trees, no_trees, one_more, Pairs, no_pairs, pair_more, tree_count, pair_count}
 use Rattle.ciborium.specs.Spelling.{Spells, SpellsAll, SpellsPairs}
-use Rattle.cose_sift.specs.declared.walk.Holds.{Holds}
-use Rattle.cose_sift.specs.declared.walk.Holds.TheVariants as holds
-use Rattle.cose_sift.specs.Grammar.{stated, upto, after, size, takes, StartsFor, Item, item, Rest, of_stated, of_open, Items, no_items, item_more, Groups, no_groups, group_more}
-use Rattle.cose_sift.proofs.Going.{regroup}
+use Rattle.cbor_walk.specs.declared.walk.Holds.{Holds}
+use Rattle.cbor_walk.specs.declared.walk.Holds.TheVariants as holds
+use Rattle.cbor_walk.specs.Grammar.{stated, upto, after, size, takes, StartsFor, Item, item, Rest, of_stated, of_open, Items, no_items, item_more, Groups, no_groups, group_more}
+use Rattle.cbor_walk.proofs.Going.{regroup}
 
 -- a head that says all
 leaf : (h : Header) (b : List ℕ) → after h ≡ stated 0 0 → Title b h → Item b

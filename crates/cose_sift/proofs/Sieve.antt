@@ -15,7 +15,7 @@ use Rattle.cose_sift.specs.Reading.{IsUntold}
 use Rattle.cose_sift.specs.Sifting.{nothing, kept, dropped, Readably, IsUnreadable, Writes, HaltsAt, Halts}
 use Rattle.cose_sift.specs.Taking.{Held, IfKnown, ItemFails, IsPlace, ItemDeepAt, most_of, failures_at, failures_after, writer_failures}
 use Rattle.cose_sift.specs.Untagging.{Content}
-use Rattle.cose_sift.specs.Walking.{IsOne, IsNothing}
+use Rattle.cbor_walk.specs.Walking.{IsOne, IsNothing}
 
 -- so far
 pub record Ran (o : Options) (old new : Seen) (w w' : Option (List ℕ)) (c : Counts) : Type 0 where

@@ -1,5 +1,5 @@
 -- An item that is taken step by step.
-use Rattle.std.proofs.Common.{◌≡◌, ◌+◌, ℕ, List, [], ◌∷◌, ◌++◌, length, Option, Some, None, refl, sym, subst, ◌∙◌, append_assoc, append-nil, arith, length-append, reverse}
+use Rattle.std.proofs.Common.{◌≡◌, ◌+◌, ℕ, List, [], ◌∷◌, ◌++◌, length, Option, Some, None, refl, sym, subst, ◌∙◌, append_assoc, append-nil, arith, length-append}
 use Rattle.std.proofs.lemmas.List.{append_cancel_left}
 use Rattle.std.specs.Io.KnownBytes.{Consumes}
 use Rattle.std.proofs.KnownBytes.{Consumes-trans}
@@ -10,11 +10,11 @@ use Rattle.cose_sift.specs.declared.items.Halt.TheVariants as halt
 use Rattle.cose_sift.specs.declared.taking.Stop.{Stop}
 use Rattle.cose_sift.specs.declared.taking.Stop.TheVariants as stop
 use Rattle.cose_sift.specs.declared.taking.Taking.{Taking}
-use Rattle.cose_sift.specs.Grammar.{Item}
+use Rattle.cbor_walk.specs.Grammar.{Item}
 use Rattle.cose_sift.specs.Taking.{due_by, Held, StepFails, BeginsNone, IfKnown, ItemFails, IsPlace}
-use Rattle.cose_sift.specs.Walking.{Goes, Refuses, IsNothing, IsOne, IsSound}
-use Rattle.cose_sift.proofs.Going.{regroup, goes_then}
-use Rattle.cose_sift.proofs.Steps.{whole_item, wants_there, string_there}
+use Rattle.cbor_walk.specs.Walking.{Goes, Refuses, IsNothing, IsOne, IsSound}
+use Rattle.cbor_walk.proofs.Going.{regroup, goes_then}
+use Rattle.cbor_walk.proofs.Steps.{whole_item, walk_there, string_there}
 
 -- some of the item was taken
 pub record Begun (old new : Seen) (t : Taking) : Type 0 where
@@ -72,7 +72,7 @@ halted old new h e = subst (ItemFails old new) (sym e) tt
 due_there : (t : Taking) → IsSound t.walk → (b : List ℕ) × due_by t b
 due_there t sound =
     let x = string_there t.body in
-    let w = wants_there t.walk.holds t.walk.due (reverse t.walk.levels.items) sound in
+    let w = walk_there t.walk sound in
     (x.0 ++ w.0, (x.0, w.0, x.1, w.1, refl))
 
 -- where it stopped

@@ -1,6 +1,5 @@
 -- Heads and strings that are taken from a decoder.
-use Rattle.std.proofs.Common.{◌≡◌, ◌≤◌, ◌+◌, ℕ, List, [], ◌∷◌, ◌++◌, length, take, drop, Bool, true, false, IsTrue, cond, get_or, Option, Some, None, refl, sym, ap, subst, ◌∙◌, append_assoc, append-nil, ◌^◌, inl, inr, length-append, length-drop, arith}
-use Rattle.std.proofs.lemmas.List.{take-append-drop, length-take-le}
+use Rattle.std.proofs.Common.{◌≡◌, ◌≤◌, ◌+◌, ℕ, List, [], ◌∷◌, ◌++◌, length, Bool, true, false, IsTrue, cond, get_or, Option, Some, None, refl, sym, ap, subst, ◌∙◌, append-nil, ◌^◌, inl, inr, length-append, arith}
 use Rattle.std.specs.Io.KnownBytes.{Consumes}
 use Rattle.ciborium_ll.specs.Device.{IsShort}
 use Rattle.ciborium_ll.specs.Reading.{Moves, Tells, Ends, IsBadByte, fault_failures}
@@ -9,16 +8,15 @@ use Rattle.ciborium_ll.specs.Title.{Title, Begins, IsCut, StartsBad, bytes_after
 use Rattle.ciborium_ll.specs.declared.hdr.Error.{Error}
 use Rattle.ciborium_ll.specs.declared.hdr.Error.TheVariants as code
 use Rattle.ciborium_ll.specs.declared.hdr.Header.{Header}
-use Rattle.ciborium_ll.proofs.Closings.{same_fronts}
 use Rattle.ciborium_ll.proofs.TitleLaws.{not_cut, not_bad}
 use Rattle.cose_sift.specs.declared.taking.Stop.{Stop}
 use Rattle.cose_sift.specs.declared.taking.Stop.TheVariants as stop
-use Rattle.cose_sift.specs.declared.walk.Fault.{Fault}
-use Rattle.cose_sift.specs.declared.walk.Fault.TheVariants as fault
+use Rattle.cbor_walk.specs.declared.walk.Fault.{Fault}
+use Rattle.cbor_walk.specs.declared.walk.Fault.TheVariants as fault
 use Rattle.cose_sift.specs.Taking.{HeadFails, StepFails, BeginsNone, IfKnown, stop_of, stopped_at, failures_by}
-use Rattle.cose_sift.specs.Walking.{Then, Long, Follows, Goes, Refuses, IsNothing, IfSyntax}
-use Rattle.cose_sift.proofs.Going.{regroup, goes_from}
-use Rattle.cose_sift.proofs.Steps.{only_rest, no_body}
+use Rattle.cbor_walk.specs.Walking.{Then, Long, Goes, Refuses, IsNothing, IfSyntax}
+use Rattle.cbor_walk.proofs.Going.{regroup, goes_from}
+use Rattle.cbor_walk.proofs.Steps.{only_rest, no_body}
 
 -- a read of n bytes that failed
 module _ {E : Type 0} (F : Stop → Type 0) (input : F stop.Input) (long : F stop.TooLong) (ends : E → Bool) (n : ℕ) (mid new : Seen) (end : Stop) (cut : IsShort mid.left n → F end) where
@@ -52,21 +50,6 @@ pub short_first : (left : Option (List ℕ)) (n : ℕ) → n ≡ 1 → IsShort l
 short_first None n is short = tt
 short_first (Some []) n is short = refl
 short_first (Some (x ∷ xs)) n is short = absurd (omega arith)
-
--- bytes of a string
-pub body_goes : (W : List ℕ → Type 0) (n m : ℕ) (x : List ℕ) → n ≡ length x + m → Goes (Then (Long n) W) (Then (Long m) W) x
-body_goes W n m x len = record { back = back; on = on }
-  where
-    back : (rest : List ℕ) → Then (Long m) W rest → Then (Long n) W (x ++ rest)
-    back rest (a, b, l, w, e) = (x ++ a, b, length-append x a ∙ ap (λ z. length x + z) l ∙ sym len, w, ap (λ z. x ++ z) e ∙ sym (append_assoc x a b))
-
-    on : (i behind left : List ℕ) → Then (Long n) W i → i ++ behind ≡ x ++ left → Follows (Then (Long m) W) x i
-    on i behind left (a, b, l, w, e) f =
-        let parts : a ≡ take (length x) a ++ drop (length x) a = sym (take-append-drop (length x) a) in
-        let within : length x ≤ length a = omega arith in
-        let g = same_fronts (take (length x) a) x (drop (length x) a ++ (b ++ behind)) left (length-take-le (length x) a within) (sym (regroup a (take (length x) a) (drop (length x) a) (b ++ behind) parts) ∙ sym (regroup i a b behind e) ∙ f) in
-        let whole : a ≡ x ++ drop (length x) a = parts ∙ ap (λ z. z ++ drop (length x) a) g.0 in
-        record { rest = drop (length x) a ++ b; has = (drop (length x) a, b, omega (arith, length-drop (length x) a), w, refl); whole = e ∙ regroup a x (drop (length x) a) b whole }
 
 -- what is due in an item that begins with a head
 module _ (P : List ℕ → Type 0) (begins : (i : List ℕ) → P i → (h : Header) × (rest : List ℕ) × Begins i h rest) where

@@ -5,10 +5,10 @@ use Rattle.ciborium_ll.specs.Title.{Title, IsCut}
 use Rattle.ciborium_ll.specs.declared.hdr.Header.{Header}
 use Rattle.ciborium_ll.proofs.Closings.{split_heads}
 use Rattle.ciborium_ll.proofs.TitleLaws.{not_cut}
-use Rattle.cose_sift.specs.Grammar.{stated, after, Item, item, Rest, of_stated, Items, no_items, item_more}
+use Rattle.cbor_walk.specs.Grammar.{stated, after, Item, item, Rest, of_stated, Items, no_items, item_more}
 use Rattle.cose_sift.specs.Untagging.{IsWrapper, Wraps, Unwraps, bare, wrapped, Content}
-use Rattle.cose_sift.specs.Walking.{IsOne}
-use Rattle.cose_sift.proofs.Going.{regroup}
+use Rattle.cbor_walk.specs.Walking.{IsOne}
+use Rattle.cbor_walk.proofs.Going.{regroup}
 
 wrapper_after : (h : Header) → IsWrapper h → after h ≡ stated 0 1
 wrapper_after h (inl e) = ap after e

@@ -1,5 +1,3 @@
-pub mod Grammar
-pub mod Walking
 pub mod Taking
 pub mod Reading
 pub mod Untagging

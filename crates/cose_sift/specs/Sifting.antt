@@ -12,7 +12,7 @@ use Rattle.cose_sift.specs.declared.taking.Stop.TheVariants as stop
 use Rattle.cose_sift.specs.Reading.{IsReadable}
 use Rattle.cose_sift.specs.Taking.{ItemFails, IsPlace, ItemDeepAt, most_of}
 use Rattle.cose_sift.specs.Untagging.{Content}
-use Rattle.cose_sift.specs.Walking.{IsOne}
+use Rattle.cbor_walk.specs.Walking.{IsOne}
 
 -- what is to be written of `x` can be read, and is P
 abbrev pub Readably : Bool → List ℕ → (List ℕ → Type 0) → Type 0

@@ -10,11 +10,11 @@ use Rattle.cose_sift.specs.declared.items.Halt.TheVariants as halt
 use Rattle.cose_sift.specs.declared.taking.Stop.{Stop}
 use Rattle.cose_sift.specs.declared.taking.Stop.TheVariants as stop
 use Rattle.cose_sift.specs.declared.taking.Taking.{Taking}
-use Rattle.cose_sift.specs.declared.walk.Fault.{Fault}
-use Rattle.cose_sift.specs.declared.walk.Fault.TheVariants as fault
-use Rattle.cose_sift.specs.Grammar.{Item}
-use Rattle.cose_sift.specs.Walking.{Then, Long, Refuses, IsDeep, IsNothing, wanted_by}
-use Rattle.cose_sift.specs.Walking.{IsDue as IsWalking}
+use Rattle.cbor_walk.specs.declared.walk.Fault.{Fault}
+use Rattle.cbor_walk.specs.declared.walk.Fault.TheVariants as fault
+use Rattle.cbor_walk.specs.Grammar.{Item}
+use Rattle.cbor_walk.specs.Walking.{Then, Long, Refuses, IsDeep, IsNothing, wanted_by}
+use Rattle.cbor_walk.specs.Walking.{IsDue as IsWalking}
 
 -- what is due of the item
 abbrev pub due_by : Taking → List ℕ → Type 0

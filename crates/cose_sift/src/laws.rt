@@ -2,19 +2,10 @@
 ghost use Rattle.std.specs.Prelude.{◌≡◌, ℕ, List, Bool, false};
 ghost use Rattle.ciborium.specs.Front.{Reads};
 ghost use Rattle.ciborium_value.specs.Tree.{Tree};
-ghost use Rattle.cose_sift.specs.Grammar.{Item};
+ghost use Rattle.cbor_walk.specs.Grammar.{Item};
 ghost use Rattle.cose_sift.specs.Sifting.{Sifted, AsReceived, IsReadThrough};
 ghost use Rattle.cose_sift.specs.Untagging.{Content};
-ghost use Rattle.cose_sift.specs.Walking.{Goes, IsNothing, IsOne, IsSound, IsDeep};
-ghost use Rattle.cose_sift.specs.Walking.{Counts, wanted_by};
 ghost use Rattle.cose_sift.specs.declared.sifting.Options.{Options};
-ghost use Rattle.cose_sift.specs.declared.walk.Walk.{Walk};
-
-/// Bytes that lead from an item to nothing are one item, and no other item begins with them or
-/// begins them.
-pub fn whole_items()
-    ensures { (x : List ℕ) → Goes Item IsNothing x → IsOne x }
-{}
 
 /// What ciborium reads as an item is one.
 pub fn readable_items()
@@ -36,11 +27,4 @@ pub fn as_received()
 pub fn read_through()
     ensures { (o : Options) (b out : List ℕ) (n k : ℕ) → Sifted o b out n k
         → IsReadThrough out n }
-{}
-
-/// What is too deep after some bytes of an item is so as they are counted: more items are open, or
-/// 2^64 bytes are due.
-pub fn deep_is_counted()
-    ensures { (most : ℕ) (w : Walk) (x : List ℕ) → IsSound w → Goes Item (wanted_by w) x
-        → IsDeep Item most x → Counts most w }
 {}

@@ -10,7 +10,6 @@ mod reading;
 mod sifting;
 mod taking;
 mod untagging;
-mod walk;
 
 use crate::sifting::{Options, sift_told};
 use ciborium_ll::{Decoder, Io};

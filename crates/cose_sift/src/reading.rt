@@ -2,7 +2,7 @@
 ghost use Rattle.std.specs.Prelude.{◌≡◌, ◌≢◌, ◌⊎◌, IfOk, IfErr, MatchBool, false};
 ghost use Rattle.ciborium.specs.declared.de.Error.TheVariants as code;
 ghost use Rattle.cose_sift.specs.Reading.{IsReadable, Unread};
-ghost use Rattle.cose_sift.specs.Walking.{IsOne};
+ghost use Rattle.cbor_walk.specs.Walking.{IsOne};
 ghost use Rattle.cose_sift.specs.declared.items.Halt.TheVariants as halt;
 ghost use Rattle.cose_sift.specs.declared.taking.Stop.TheVariants as stop;
 

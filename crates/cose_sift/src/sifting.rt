@@ -9,7 +9,7 @@ ghost use Rattle.ciborium_ll.specs.Views.{left_of};
 ghost use Rattle.cose_sift.specs.Reading.{IsUntold};
 ghost use Rattle.cose_sift.specs.Sifting.{Readably, IsUnreadable, Writes, Halts, status_of};
 ghost use Rattle.cose_sift.specs.Taking.{IfKnown, failures_after, writer_failures};
-ghost use Rattle.cose_sift.specs.Walking.{IsOne};
+ghost use Rattle.cbor_walk.specs.Walking.{IsOne};
 ghost use Rattle.cose_sift.specs.declared.items.Halt.TheVariants as halt;
 ghost use Rattle.cose_sift.specs.declared.sifting.Counts.{Counts};
 ghost use Rattle.cose_sift.specs.declared.taking.Stop.TheVariants as stop;

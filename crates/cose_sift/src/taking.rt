@@ -4,13 +4,13 @@ ghost use Rattle.std.specs.Prelude.{OnOk, IfOk, IfErr, IfSome, IfNone, length, g
 ghost use Rattle.ciborium_ll.specs.Seen.{Takes};
 ghost use Rattle.ciborium_ll.specs.Title.{Title, StartsBad, bytes_after};
 ghost use Rattle.ciborium_ll.specs.Views.{waiting_of, seen};
-ghost use Rattle.cose_sift.specs.Grammar.{Item, body_of};
-ghost use Rattle.cose_sift.specs.Walking.{Goes, IsNothing, IsSound};
+ghost use Rattle.cbor_walk.specs.Grammar.{Item};
+ghost use Rattle.cbor_walk.specs.Walking.{Goes, IsNothing, IsSound};
 ghost use Rattle.cose_sift.specs.Taking.{due_by, IsDue, Held, HeadFails, StepFails, stop_of};
 ghost use Rattle.cose_sift.specs.Taking.{stopped_at, failures_of, most_of, DeepAt};
 ghost use Rattle.cose_sift.specs.declared.taking.Stop.TheVariants.{Deep, Memory};
 
-use crate::walk::{Fault, Walk};
+use cbor_walk::{Fault, Walk, body_of};
 use ciborium_ll::{Decoder, Error, Header, Read};
 use std::alloc::Global;
 
@@ -47,7 +47,7 @@ pub enum Stop {
 pub struct Taking {
     walk: Walk,
     /// How many bytes of a string are due.
-    body: u64,
+    body: usize,
     /// Its bytes; none if they are more than `max`.
     bytes: Vec<u8>,
     is_long: bool,
@@ -87,17 +87,6 @@ fn bytes_after(first: u8) -> usize
         25 => 2,
         26 => 4,
         27 => 8,
-        _ => 0,
-    }
-}
-
-/// How many bytes of a string follow its head.
-fn body_of(header: Header) -> u64
-    ensures { result ≡ body_of header }
-{
-    match header {
-        Header::Bytes(Some(n)) => n as u64,
-        Header::Text(Some(n)) => n as u64,
         _ => 0,
     }
 }
@@ -279,13 +268,13 @@ impl Taking {
         ensures deep { IfErr result (λ stop. stop ≢ Deep) }
     {
         let mut piece = [0; PIECE];
-        let len = decoder.held().len().clamp(1, PIECE).min(self.body as usize);
+        let len = decoder.held().len().clamp(1, PIECE).min(self.body);
         let piece = &mut piece[..len];
         match decoder.read_exact(piece) {
             Ok(()) => {}
             Err(error) => return Err(read_fault::<R>(error, Stop::Cut)),
         }
-        self.body -= len as u64;
+        self.body -= len;
         self.keep(piece)
     }
 }

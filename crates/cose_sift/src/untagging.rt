@@ -1,7 +1,7 @@
 //! The tags around an item that only say what it is.
 ghost use Rattle.std.specs.Prelude.{◌<◌, ℕ, List, length, IfSome, IfNone, MatchBool};
 ghost use Rattle.cose_sift.specs.Untagging.{IsWrapper, Wraps, Unwraps, Content};
-ghost use Rattle.cose_sift.specs.Walking.{IsOne};
+ghost use Rattle.cbor_walk.specs.Walking.{IsOne};
 
 use ciborium_ll::{Decoder, Header};
 

@@ -5,7 +5,6 @@
 //! `iana` has the registries.
 #![tactic(auto)]
 
-mod alike;
 mod context;
 mod header_builder;
 pub mod laws;

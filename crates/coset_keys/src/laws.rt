@@ -20,7 +20,6 @@ ghost use Rattle.coset_keys.specs.View.{key_view, key_set_view};
 ghost use Rattle.coset_keys.specs.Written.{key_tree, key_set_tree};
 ghost use Rattle.coset_keys.specs.Wrong.{WrongKey, WrongKeySet};
 
-pub use crate::alike::{octet_errors_compare, point_errors_compare, variants_compare};
 use crate::key::{CoseKey, CoseKeySet, KeyOperation};
 use ciborium_value::Value;
 use ciborium_value::laws::value_fits;

@@ -2,7 +2,6 @@
 //! as octet strings (SEC 1).
 #![tactic(auto)]
 
-mod alike;
 mod builder;
 mod canonical;
 mod copies;

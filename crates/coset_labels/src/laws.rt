@@ -13,9 +13,7 @@ ghost use Rattle.coset_labels.specs.Orders.{label_cmp, label_length_first, is_ow
 ghost use Rattle.coset_labels.specs.Orders.{named_cmp};
 ghost use Rattle.coset_labels.specs.View.{label_view, registered_view, named_view};
 
-pub use crate::alike::{
-    ends_compare, errors_compare, faults_compare, none_is_misplaced, orderings_compare,
-};
+pub use crate::alike::{errors_compare, none_is_misplaced};
 use crate::label::Label;
 use crate::limits::Limits;
 use crate::registered::{RegisteredLabel, RegisteredLabelWithPrivate};

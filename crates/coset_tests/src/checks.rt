@@ -2,8 +2,8 @@
 use ciborium_value::Value;
 use coset_base::HeaderBuilder;
 use coset_headers::Header;
-use coset_labels::{CborSerializable, CoseError, Fault, TaggedCborSerializable, iana};
-use std::alloc::{AllocError, Global};
+use coset_labels::{CoseError, Fault, TaggedCborSerializable, iana};
+use std::alloc::Global;
 use std::fmt::Debug;
 use std::process::Abort;
 
@@ -22,44 +22,6 @@ pub fn gives<E: Debug + Drop>(
     let made = made.expect(rt, want);
     let got = hex::encode(alloc, made.as_slice()).expect(rt, "memory");
     assert_eq!(rt; got.as_str(), want);
-}
-
-/// Whether it is written as these bytes.
-pub fn is_written<T: CborSerializable>(
-    alloc: Global,
-    it: T,
-    bytes: &[u8],
-) -> Result<bool, CoseError> {
-    let written = it.to_vec(alloc)?;
-    Ok(written.as_slice() == bytes)
-}
-
-/// Whether these bytes are read, and a copy is the same and is written as these bytes.
-pub fn is_written_back<T, C>(alloc: Global, bytes: &[u8], copy: C) -> Result<bool, CoseError>
-where
-    T: CborSerializable + PartialEq,
-    C: FnOnce(&T, Global) -> Result<T, AllocError>,
-    requires { C.IsAlwaysCallable copy }
-{
-    let read = T::from_slice(alloc, bytes)?;
-    let copied = copy(&read, alloc)?;
-    let is_same = copied == read;
-    let is_written = is_written(alloc, copied, bytes)?;
-    Ok(is_same && is_written)
-}
-
-/// Whether these bytes are read with a tag and written without one, that is written back, and read
-/// without a tag and written with one.
-pub fn is_tagged_back<T, C>(alloc: Global, bytes: &[u8], copy: C) -> Result<bool, CoseError>
-where
-    T: CborSerializable + TaggedCborSerializable + PartialEq,
-    C: FnOnce(&T, Global) -> Result<T, AllocError>,
-    requires { C.IsAlwaysCallable copy }
-{
-    let untagged = T::from_tagged_slice(alloc, bytes)?.to_vec(alloc)?;
-    let is_back = is_written_back::<T, C>(alloc, &untagged, copy)?;
-    let tagged = T::from_slice(alloc, &untagged)?.to_tagged_vec(alloc)?;
-    Ok(is_back && tagged.as_slice() == bytes)
 }
 
 /// Memory was enough for each call, or the result is that it was refused.

@@ -1,46 +1,8 @@
-//! Tests of labels, errors and types with a tag: what no clause and no row of `conformance_cbor`
-//! or `conformance_cose` says.
+//! A type of the caller's that is written with a tag.
 use crate::checks::{gives, of_hex};
-use coset::cbor::{Value, de, ser};
-use coset::{
-    Algorithm, AsCborValue, CoseError, EndOfFile, Fault, KeyType, Label, TaggedCborSerializable,
-    iana,
-};
+use coset::cbor::Value;
+use coset::{AsCborValue, CoseError, Label, TaggedCborSerializable};
 use std::alloc::Global;
-
-#[test]
-fn registered_numbers_come_before_private_ones_and_reserved_is_the_default(rt: HostRuntime) {
-    let assigned = Algorithm::Assigned(iana::Algorithm::A128GCM);
-    assert!(rt; assigned < Algorithm::PrivateUse(1));
-    assert!(rt; Algorithm::PrivateUse(0) < assigned);
-    assert!(rt; Algorithm::PrivateUse(i64::MIN) > assigned);
-    assert!(rt; Algorithm::default() == Algorithm::from(iana::Algorithm::Reserved));
-    assert!(rt; KeyType::default() == KeyType::from(iana::KeyType::Reserved));
-}
-
-#[test]
-fn faults_become_errors(rt: HostRuntime) {
-    let unread: de::Error<u8> = de::Error::Memory;
-    let unwritten: ser::Error<u8> = ser::Error::Memory;
-    let out_of_range = u8::try_from(256u32).err().expect(&rt, "256 in a byte");
-    let got = [
-        CoseError::from(de::Error::Io(1u8)),
-        CoseError::from(unread),
-        CoseError::from(ser::Error::Io(1u8)),
-        CoseError::from(unwritten),
-        CoseError::from(out_of_range),
-    ];
-    let want = [
-        CoseError::DecodeFailed(de::Error::Io(EndOfFile)),
-        CoseError::Memory,
-        CoseError::EncodeFailed,
-        CoseError::Memory,
-        CoseError::OutOfRangeIntegerValue,
-    ];
-    assert_eq!(rt; got, want);
-    let fault: Fault<u8> = Fault::from(CoseError::ExtraneousData);
-    assert_eq!(rt; fault, Fault::Cose(CoseError::ExtraneousData));
-}
 
 /// A label that is written with a tag.
 #[derive(Drop)]

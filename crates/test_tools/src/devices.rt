@@ -72,23 +72,45 @@ impl<'a> Read for Source<'a> {
     }
 }
 
-/// A writer that takes all but one call, the one after so many, and can't be flushed.
+/// A writer that fails at one call, when it is full, or when it is flushed.
 #[derive(Drop)]
 pub struct Sink {
     /// What was taken.
     pub bytes: Vec<u8>,
+    /// How many bytes were taken when it was flushed last.
+    pub shown: usize,
     calls: usize,
+    room: usize,
+    flushes: usize,
     failed: Count,
 }
 
 impl Sink {
-    /// Takes so many calls before the one that fails.
-    pub fn new(alloc: Global, calls: usize) -> Sink {
+    fn of(alloc: Global, calls: usize, room: usize, flushes: usize) -> Sink {
         Sink {
             bytes: Vec::new(alloc),
+            shown: 0,
             calls,
+            room,
+            flushes,
             failed: Count::new(),
         }
+    }
+
+    /// Takes all but one call, the one after so many, and can't be flushed.
+    pub fn new(alloc: Global, calls: usize) -> Sink {
+        Sink::of(alloc, calls, usize::MAX, 0)
+    }
+
+    /// Takes so many bytes and then fails: of data that is longer than what is left of them it
+    /// takes the part that fits.
+    pub fn of_room(alloc: Global, room: usize) -> Sink {
+        Sink::of(alloc, usize::MAX, room, usize::MAX)
+    }
+
+    /// Takes all, and flushes so many times before it fails.
+    pub fn flushed(alloc: Global, flushes: usize) -> Sink {
+        Sink::of(alloc, usize::MAX, usize::MAX, flushes)
     }
 }
 
@@ -105,104 +127,13 @@ impl Write for Sink {
     fn write_all(&mut self, data: &[u8]) -> Result<(), Broken> {
         let is_taken = self.calls > 0;
         self.calls = self.calls.wrapping_sub(1);
-        if is_taken && self.bytes.extend_from_slice(data).is_ok() {
-            return Ok(());
-        }
-        self.failed = self.failed.and_one();
-        Err(Broken)
-    }
-
-    fn flush(&mut self) -> Result<(), Broken> {
-        self.failed = self.failed.and_one();
-        Err(Broken)
-    }
-}
-
-/// A writer that takes so many bytes and then fails: of data that is longer than what is left of
-/// them it takes the part that fits.
-#[derive(Drop)]
-pub struct FailAfter {
-    /// What was taken.
-    pub bytes: Vec<u8>,
-    left: usize,
-    failed: Count,
-}
-
-impl FailAfter {
-    /// Takes so many bytes.
-    pub fn new(alloc: Global, count: usize) -> FailAfter {
-        FailAfter {
-            bytes: Vec::new(alloc),
-            left: count,
-            failed: Count::new(),
-        }
-    }
-}
-
-impl Write for FailAfter {
-    ghost use Rattle.std.specs.Prelude.{Some};
-    ghost use Rattle.ciborium_ll.specs.Count.{total};
-
-    type Error = Broken;
-
-    ghost written = { λ s. Some s.bytes.items };
-
-    ghost failed = { λ s. total s.failed };
-
-    fn write_all(&mut self, data: &[u8]) -> Result<(), Broken> {
-        if data.len() <= self.left && self.bytes.extend_from_slice(data).is_ok() {
-            self.left -= data.len();
-            return Ok(());
-        }
-        let part = &data[..self.left.min(data.len())];
-        let _ = self.bytes.extend_from_slice(part);
-        self.left = 0;
-        self.failed = self.failed.and_one();
-        Err(Broken)
-    }
-
-    fn flush(&mut self) -> Result<(), Broken> {
-        Ok(())
-    }
-}
-
-/// A writer whose bytes are shown only when it is flushed. It flushes so many times, and then
-/// fails.
-#[derive(Drop)]
-pub struct Held {
-    /// What was taken.
-    pub bytes: Vec<u8>,
-    /// How many bytes were shown.
-    pub shown: usize,
-    flushes: usize,
-    failed: Count,
-}
-
-impl Held {
-    /// Flushes so many times before it fails.
-    pub fn new(alloc: Global, flushes: usize) -> Held {
-        Held {
-            bytes: Vec::new(alloc),
-            shown: 0,
-            flushes,
-            failed: Count::new(),
-        }
-    }
-}
-
-impl Write for Held {
-    ghost use Rattle.std.specs.Prelude.{Some};
-    ghost use Rattle.ciborium_ll.specs.Count.{total};
-
-    type Error = Broken;
-
-    ghost written = { λ s. Some s.bytes.items };
-
-    ghost failed = { λ s. total s.failed };
-
-    fn write_all(&mut self, data: &[u8]) -> Result<(), Broken> {
-        if self.bytes.extend_from_slice(data).is_ok() {
-            return Ok(());
+        let room = if is_taken { self.room } else { 0 };
+        let part = &data[..room.min(data.len())];
+        if self.bytes.extend_from_slice(part).is_ok() {
+            self.room = self.room.saturating_sub(part.len());
+            if is_taken && part.len() == data.len() {
+                return Ok(());
+            }
         }
         self.failed = self.failed.and_one();
         Err(Broken)

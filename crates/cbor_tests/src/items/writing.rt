@@ -1,8 +1,6 @@
-//! Texts that are written, writers that are full, and faults.
-use crate::checks::{holds, is_written, same};
-use ciborium::de::Error;
-use ciborium::value::Kind;
-use ciborium::{End, Full, Mem, Value, into_writer, ll, ser};
+//! Writers that are full.
+use crate::checks::holds;
+use ciborium::{Full, Mem, Value, into_writer, ser};
 
 #[test]
 fn a_full_writer_is_the_answer(rt: HostRuntime) {
@@ -13,18 +11,4 @@ fn a_full_writer_is_the_answer(rt: HostRuntime) {
     holds(&rt, answer == Err(ser::Error::Io(Full)), "a full writer");
     let begins = [0x43u8, 1, 2, 3].starts_with(out.as_written());
     holds(&rt, begins, "what a full writer has");
-    is_written(&rt, rt.alloc(), &"hi", "626869", "a text");
-}
-
-#[test]
-fn faults_are_made(rt: HostRuntime) {
-    let fault = ser::Error::<Full>::from(Full);
-    same(&rt, &fault, &ser::Error::Io(Full), "a fault of writing");
-    let fault = Error::<End>::from(End);
-    same(&rt, &fault, &Error::Io(End), "an end");
-    let fault = Error::<End>::from(ll::Error::<End>::Syntax(3));
-    same(&rt, &fault, &Error::Syntax(3), "a fault of syntax");
-    let fault = Error::<End>::semantic(None, Kind::Break);
-    let want = Error::Semantic(None, Kind::Break);
-    same(&rt, &fault, &want, "a fault of meaning");
 }

@@ -6,20 +6,7 @@ use crate::ll::heads::behind;
 use ciborium_ll::{Decoder, Encoder, Error, Full, Header, Io, IoFault, Mem, Read, Write};
 use std::io;
 use std::process::Abort;
-
-/// A reader of std that gives one byte a call, and then an error.
-#[derive(Drop)]
-pub struct Broken<'a>(pub &'a [u8]);
-
-impl<'a> io::Read for Broken<'a> {
-    fn read(&mut self, buf: &mut [u8]) -> io::Result<usize> {
-        if self.0.is_empty() {
-            return Err(io::Error::from(io::ErrorKind::Interrupted));
-        }
-        let n = buf.len().min(1);
-        self.0.read(&mut buf[..n])
-    }
-}
+use test_tools::OneByOne;
 
 /// What a reader or a writer of std returns in place of a byte.
 #[derive(Clone, Copy)]
@@ -92,6 +79,14 @@ fn meets<R: io::Read>(rt: &impl Abort, decoder: &mut Decoder<Io<R>>, is_end: boo
     holds(rt, is_told, "a fault, which is an end or not");
 }
 
+/// A reader of std that gives these bytes one by one, and then fails.
+pub fn broken(bytes: &[u8]) -> OneByOne<'_> {
+    OneByOne {
+        bytes,
+        is_broken: true,
+    }
+}
+
 /// A head of 256, and a beginning of another.
 const CUT: &[u8] = &[0x19, 1, 0, 0x58];
 
@@ -100,7 +95,7 @@ fn a_reader_of_std_gives_bytes_and_an_end_or_a_failure(rt: HostRuntime) {
     let mut decoder = behind(&rt, Io::new(CUT), Header::Positive(256));
     meets(&rt, &mut decoder, true);
     holds(&rt, decoder.offset() == 4, "where the end is");
-    let mut decoder = behind(&rt, Io::new(Broken(CUT)), Header::Positive(256));
+    let mut decoder = behind(&rt, Io::new(broken(CUT)), Header::Positive(256));
     meets(&rt, &mut decoder, false);
 }
 

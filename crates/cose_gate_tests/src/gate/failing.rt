@@ -4,7 +4,7 @@ use crate::gate::seen::{Answer, WAYS, Way, answered, reached, run, whole};
 use cose_gate::{Counts, End, GateFault, Io, Recorder, Write, de};
 use std::alloc::Global;
 use std::process::Abort;
-use test_tools::{Broken, FailAfter, OneByOne, Sink, Source};
+use test_tools::{Broken, OneByOne, Sink, Source};
 
 /// A run over the two messages stops when this reader fails, after so many bytes: what was whole
 /// before has passed.
@@ -87,7 +87,7 @@ fn stops_at(rt: &impl Abort, ended: &Ended, written: &[u8]) {
 
 /// A writer that takes so many bytes.
 fn is_full(rt: &impl Abort, alloc: Global, way: Way, room: usize) {
-    let mut out = FailAfter::new(alloc, room);
+    let mut out = Sink::of_room(alloc, room);
     let ended = ended(alloc, way, &mut out);
     stops_at(rt, &ended, &out.bytes);
     assert_eq!(rt; out.bytes.len(), room);

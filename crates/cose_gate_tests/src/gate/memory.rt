@@ -1,10 +1,10 @@
 //! Memory that is refused to the judge, to the report, and to the run.
 use crate::checks::{entry, same};
 use crate::gate::seen::{Answer, Observed, WAYS, Way, answered, reached, whole};
+use crate::judges::Nth;
 use cose_gate::{Asked, End, Entry, GateFault, Mem, MessageKind, Recorder, Refusal, Verdict};
 use std::alloc::Global;
 use std::process::Abort;
-use test_tools::Nth;
 
 /// Two messages with an integer between them.
 pub const INPUT: &[u8] = &[

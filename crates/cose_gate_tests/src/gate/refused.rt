@@ -1,10 +1,10 @@
 //! Memory that is refused to a run, at each allocation in turn (`scripts/fail-alloc.sh`).
 use crate::gate::seen::{Answer, Way, answered, whole};
+use crate::judges::Counting;
 use crate::messages::MESSAGE;
 use cose_gate::{End, GateFault, Mem, Recorder};
 use std::alloc::{AllocError, Global};
 use std::process::Abort;
-use test_tools::Counting;
 
 /// 98([h'', {}, 'hi', [[h'a10126', {}, h'00'], [h'a10126', {}, h'01']]]).
 const SIGNERS: &[u8] = &[

@@ -1,9 +1,9 @@
 //! A long input, and a judge that counts.
 use crate::checks::{entry, same};
 use crate::gate::seen::{Way, answered, reached, run, whole};
+use crate::judges::Counting;
 use crate::messages::{MESSAGE, many};
 use cose_gate::{End, Nowhere, Silent, Verdict};
-use test_tools::Counting;
 
 #[test]
 fn goes_through_a_long_input(rt: HostRuntime) {

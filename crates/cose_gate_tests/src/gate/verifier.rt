@@ -1,10 +1,10 @@
 //! Memory that is refused to a judge by a verifier. What it says of tags is in rows `pass-good`.
 use crate::gate::seen::{Way, answered, whole};
+use crate::judges::Nth;
 use callers::choosing::{Secret, Secrets};
 use cose_gate::{End, GateFault, Mem, VerifierJudge};
 use std::alloc::Global;
 use std::process::Abort;
-use test_tools::Nth;
 
 /// 17([h'a10105', {4: h'11'}, 'hi', TAG]), with the tag under that secret over the external data
 /// 01, by another program.

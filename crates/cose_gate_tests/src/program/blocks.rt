@@ -1,7 +1,6 @@
 //! A reader of std in blocks: what is read is the same as without blocks, whatever a block holds.
 use crate::messages::{KEYS, TAGGED};
-use callers::checking::program_in_blocks;
-use cose_gate::{Blocks, InputFault, Mem, Read, Write};
+use cose_gate::{Blocks, InputFault, Mem, Read, Write, run};
 use cose_gate_program::OutBlocks;
 use std::alloc::Global;
 use std::io;
@@ -66,10 +65,11 @@ fn reads_over_blocks_ends_and_faults(rt: HostRuntime) {
 fn a_program_reads_in_blocks(rt: HostRuntime) {
     let alloc = rt.alloc();
     let input = BufReader::with_capacity(alloc, 16, TAGGED).expect(&rt, "no fault");
+    let mut blocks = Blocks::new(input);
     let mut out = Mem::new(Vec::new(alloc));
     let mut err = Mem::new(Vec::new(alloc));
     assert_eq!(rt;
-        program_in_blocks(alloc, KEYS, input, &mut out, &mut err),
+        run(alloc, Some(KEYS), None, &mut blocks, &mut out, &mut err),
         1
     );
     assert!(rt; out.as_written().is_empty());

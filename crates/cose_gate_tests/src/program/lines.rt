@@ -1,9 +1,10 @@
 //! The program over readers, writers and judges that fail.
+use crate::judges::{Counting, Nth};
 use crate::messages::{KEYS, TAGGED};
 use cose_gate::{Limits, Mem, Read, Terms, Write, run, run_judged, run_over, run_with};
 use std::alloc::Global;
 use std::process::Abort;
-use test_tools::{Counting, FailAfter, Nth, Sink, Source};
+use test_tools::{Sink, Source};
 
 /// Which of the program's calls makes a run: `run`, or a strict `run_with` or `run_over`.
 #[derive(Debug, Clone, Copy, PartialEq, Eq)]
@@ -51,7 +52,7 @@ fn stops<R: Read>(
     room: usize,
     (lines, output): (&str, &[u8]),
 ) {
-    let mut out = FailAfter::new(alloc, room);
+    let mut out = Sink::of_room(alloc, room);
     let mut err = Mem::new(Vec::new(alloc));
     let status = status(alloc, call, input, &mut out, &mut err);
     assert_eq!(rt; (call, status), (call, 4));

@@ -1,9 +1,9 @@
 //! A judge begins no question about a message that isn't streamed.
 use crate::checks::unhex;
+use crate::judges::Counting;
 use crate::stream::checks::checked;
 use std::alloc::Global;
 use std::process::Abort;
-use test_tools::Counting;
 
 /// A message that carries no payload, one whose length isn't stated, and one with another item in
 /// its place; one with another header, and one with another tag.

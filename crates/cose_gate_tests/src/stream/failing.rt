@@ -1,9 +1,10 @@
 //! Readers that fail in mid-stream.
+use crate::judges::Counting;
 use crate::stream::checks::checked;
 use cose_gate::{Limits, StreamFault, de};
 use std::alloc::Global;
 use std::process::Abort;
-use test_tools::{Broken, Counting, Source};
+use test_tools::{Broken, Source};
 
 /// 18([h'a10126', {}, '0123456789', h'010203']).
 const TEN: &[u8] = b"\xd2\x84\x43\xa1\x01\x26\xa0\x4a0123456789\x43\x01\x02\x03";

@@ -1,10 +1,10 @@
 //! Memory that is refused to the judge.
+use crate::judges::Nth;
 use crate::messages::MESSAGE;
 use crate::stream::checks::checked;
 use cose_gate::{End, Limits, Recorder, StreamFault};
 use std::alloc::Global;
 use std::process::Abort;
-use test_tools::Nth;
 
 /// A judge that has answered a question, and is then refused memory once, after so many calls.
 fn judge(rt: &impl Abort, alloc: Global, calls: usize) -> Nth<Recorder> {

@@ -1,10 +1,11 @@
 //! A payload takes no memory: each allocation is refused in turn (`scripts/fail-alloc.sh`).
+use crate::judges::Counting;
 use crate::messages::KEYS;
 use crate::stream::checks::checked;
 use cose_gate::{CborSerializable, CoseKeySet, End, HmacJudge, Judge, Limits, StreamFault};
 use std::alloc::Global;
 use std::process::Abort;
-use test_tools::{Counting, LongMessage};
+use test_tools::LongMessage;
 
 /// What a message begins with, and how long its payload is.
 type Front = (&'static [u8], usize);

@@ -11,10 +11,6 @@ ghost use Rattle.coset_base.specs.Covered.{Covered, covered_bytes, CoveredFits, 
 ghost use Rattle.coset_base.specs.Covered.{covered_by_mac, covered_by_enc};
 ghost use Rattle.coset_base.specs.Structure.{sig_structure, mac_structure, encryption_structure};
 
-pub use crate::alike::{
-    encryption_contexts_compare, mac_contexts_compare, signature_contexts_compare,
-};
-
 /// The structures over a protected header that can be written are there.
 pub fn structures_can_be_written()
     ensures one { (context aad payload : List ℕ) (p : ProtectedFields) → shown p ≢ None

@@ -3,11 +3,11 @@
 ghost use Rattle.coset_recipients.specs.Structure.{IsRecipientContext};
 
 use crate::checks::{
-    LONG, MISMATCH, Met, fails, flat, give, in_order, is_long_between, is_tagged_back,
-    is_tagged_long, join, missing, repeated, watched, with_algorithm,
+    LONG, MISMATCH, Met, fails, flat, give, in_order, is_long_between, is_tagged_long, join,
+    missing, repeated, watched, with_algorithm,
 };
 use coset_base::{EncryptionContext, HeaderBuilder};
-use coset_encrypted::{CoseEncrypt, CoseEncrypt0, CoseEncrypt0Builder, CoseEncryptBuilder};
+use coset_encrypted::{CoseEncrypt0Builder, CoseEncryptBuilder};
 use coset_labels::{CborSerializable, CoseError, Fault, iana};
 use coset_recipients::{CoseRecipient, CoseRecipientBuilder};
 use std::alloc::Global;
@@ -120,17 +120,9 @@ fn encrypt_is_written(alloc: Global) -> Result<bool, Met> {
     Ok(is_written && covered.as_slice() == COVERED)
 }
 
-/// A COSE_Encrypt0 in its tag.
-const ENCRYPT0: &[u8] = b"\xd0\x83\x43\xa1\x01\x01\xa1\x05\x41\x05\x42\x07\x08";
-
-/// A COSE_Encrypt in its tag, with one recipient.
-const ENCRYPT: &[u8] = b"\xd8\x60\x84\x43\xa1\x01\x01\xa0\x42\x07\x08\x81\x83\x40\xa0\xf6";
-
 /// What calls of encrypted messages return.
-pub(crate) fn of_encrypted(alloc: Global) -> [Result<bool, CoseError>; 6] {
+pub(crate) fn of_encrypted(alloc: Global) -> [Result<bool, CoseError>; 4] {
     [
-        is_tagged_back(alloc, ENCRYPT0, CoseEncrypt0::clone),
-        is_tagged_back(alloc, ENCRYPT, CoseEncrypt::clone),
         flat(encrypt0_is_decrypted(alloc)),
         flat(encrypt_is_decrypted(alloc)),
         flat(encrypt0_is_written(alloc)),

@@ -3,9 +3,9 @@
 use coset::cbor::Value;
 use coset::cwt::ClaimsSetBuilder;
 use coset::{
-    CborSerializable, CoseKdfContext, CoseKdfContextBuilder, CoseKey, CoseKeyBuilder, CoseMac,
-    CoseMacBuilder, CoseRecipient, CoseRecipientBuilder, CoseSign, CoseSign1, CoseSign1Builder,
-    CoseSignBuilder, CoseSignature, Fault, Header, HeaderBuilder, Label, iana,
+    CborSerializable, CoseKdfContext, CoseKdfContextBuilder, CoseMac, CoseMacBuilder,
+    CoseRecipient, CoseRecipientBuilder, CoseSign, CoseSign1, CoseSign1Builder, CoseSignBuilder,
+    CoseSignature, Fault, Header, HeaderBuilder, Label, iana,
 };
 use std::alloc::Global;
 use std::process::Abort;
@@ -121,31 +121,4 @@ fn many_claims_infos_and_entries_are_kept(rt: HostRuntime) {
     is_back(&rt, alloc, claims.build(), "claims");
     is_back::<CoseKdfContext>(&rt, alloc, context.build(), "a context");
     is_back(&rt, alloc, header, "a header");
-}
-
-#[test]
-fn each_operation_and_a_point_of_p_521_are_written(rt: HostRuntime) {
-    let alloc = rt.alloc();
-    let (x, y) = (bytes(&rt, alloc, 66), bytes(&rt, alloc, 66));
-    let mut key = CoseKeyBuilder::new_ec2_pub_key(alloc, iana::EllipticCurve::P_521, x, y).expect(
-        &rt, "a key",
-    );
-    for operation in [
-        iana::KeyOperation::Sign,
-        iana::KeyOperation::Verify,
-        iana::KeyOperation::Encrypt,
-        iana::KeyOperation::Decrypt,
-        iana::KeyOperation::WrapKey,
-        iana::KeyOperation::UnwrapKey,
-        iana::KeyOperation::DeriveKey,
-        iana::KeyOperation::DeriveBits,
-        iana::KeyOperation::MacCreate,
-        iana::KeyOperation::MacVerify,
-    ] {
-        key = key.add_key_op(operation).expect(&rt, "an operation");
-    }
-    let key = key.build();
-    let point = key.to_sec1_octet_string(alloc).expect(&rt, "a point");
-    assert_eq!(rt; point.len(), 133);
-    is_back::<CoseKey>(&rt, alloc, key, "a key");
 }

@@ -21,6 +21,8 @@ returns-clause-ran g c =
         status_is = r.0.status_is;
       },
       r.1,
+      r.2,
+      r.3,
     )
 
 pub returns-clause-lines : goal.returns-clause-lines

@@ -5,7 +5,7 @@ use Rattle.cose_gate_records.proofs.Told.{cut_last}
 use Rattle.cose_gate_records.proofs.passing.pass_by.Goals as goal
 
 pub returns-then-is_refused : goal.returns-then-is_refused
-returns-then-is_refused c = (
+returns-then-is_refused g c = (
   [],
   4,
   inr (
@@ -23,7 +23,7 @@ returns-then-is_refused c = (
 )
 
 pub returns : goal.returns
-returns c = (
+returns g c = (
   c.as_written.result.now,
   c.run_with_judge-ended.result.status,
   inl (

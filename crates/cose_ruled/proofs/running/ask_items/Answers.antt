@@ -26,6 +26,8 @@ items-init g c =
         done = [];
         reached = reached_start _ _;
         failed = refl;
+        blocks = [];
+        are = refl;
         written = Appends-nil _;
         told = refl;
       };
@@ -39,7 +41,7 @@ items-preserved g c =
     let more = rw c.in-Some.is at next.more in
     let who = ap (λ (z : Item). z.keys) c.next_item.ensures.item ∙ inv.who in
     let here = ap (λ (z : Item). z.before) (next.who ∙ c.next_item.ensures.item) ∙ ap (λ (z : Asked). z.told) (sym c.next_item.ensures.told) in
-    let come = asked_same _ _ _ g.W.Write g.T.Teller _ _ _ _ _ _ _ _ _ _ _ _ c.next_item.ensures.told inv.come in
+    let come = asked_same _ _ _ _ g.W.Write g.T.Teller _ _ _ _ _ _ _ _ _ _ _ _ c.next_item.ensures.told inv.come in
     let far = goes_on _ _ _ _ _ _ _ (Ok (Some c.in-Some.next)) who (rw c.in-Some.is at next.ran) true come.first come.done come.reached in
     record {
       who = ap (λ (z : Item). z.keys) next.who ∙ who;
@@ -49,7 +51,7 @@ items-preserved g c =
       lent = c.in_ok-ask_item.ensures.lent ∙ inv.lent;
       fresh = next.fresh;
       room = omega (arith, more.1);
-      come = come_next _ _ _ g.W.Write g.T.Teller _ _ _ _ _ _ _ _ come _ _ _ far _ _ _ _ tt who here c.offset.ensures c.in_ok-ask_item.ensures.handed;
+      come = come_next _ _ _ _ g.W.Write g.T.Teller _ _ _ _ _ _ _ _ come _ _ _ far _ _ _ _ tt who here c.offset.ensures c.in_ok-ask_item.ensures.handed;
     }
 
 pub items-smaller : goal.items-smaller
@@ -61,10 +63,10 @@ returns-in_err-next-clause-ran g c =
     let inv = c.items.invariant in
     let next = c.in_err-next.ensures in
     let who = ap (λ (z : Item). z.keys) c.next_item.ensures.item ∙ inv.who in
-    let come = asked_same _ _ _ g.W.Write g.T.Teller _ _ _ _ _ _ _ _ _ _ _ _ c.next_item.ensures.told inv.come in
+    let come = asked_same _ _ _ _ g.W.Write g.T.Teller _ _ _ _ _ _ _ _ _ _ _ _ c.next_item.ensures.told inv.come in
     let ran = goes_on _ _ _ _ _ _ _ (Err _) who next.ran true come.first come.done come.reached in
     rw (err_is _ _ c.from_residual.ensures.1)
-    (at_end _ _ _ g.W.Write g.T.Teller _ _ _ _ _ _ _ _ come _ _ ran _ _ _ (search rules ∙ sym (no_title _ _ _ refl next.fresh)) refl (search rules) (search rules))
+    (at_end _ _ _ _ g.W.Write g.T.Teller _ _ _ _ _ _ _ _ come _ _ ran _ _ _ (search rules ∙ sym (no_title _ _ _ refl next.fresh)) refl (search rules) (search rules))
 
 -- all items are gone through
 pub returns-in_default-clause-ran : goal.returns-in_default-clause-ran
@@ -72,9 +74,9 @@ returns-in_default-clause-ran g c =
     let inv = c.items.invariant in
     let next = c.in_ok-next.ensures in
     let who = ap (λ (z : Item). z.keys) c.next_item.ensures.item ∙ inv.who in
-    let come = asked_same _ _ _ g.W.Write g.T.Teller _ _ _ _ _ _ _ _ _ _ _ _ c.next_item.ensures.told inv.come in
+    let come = asked_same _ _ _ _ g.W.Write g.T.Teller _ _ _ _ _ _ _ _ _ _ _ _ c.next_item.ensures.told inv.come in
     let ran = goes_on _ _ _ _ _ _ _ (Ok None) who (rw c.in_default.is at next.ran) true come.first come.done come.reached in
-    at_end _ _ _ g.W.Write g.T.Teller _ _ _ _ _ _ _ _ come _ _ ran _ _ _ (search rules ∙ sym (no_title _ _ _ refl next.fresh)) refl (search rules) (search rules)
+    at_end _ _ _ _ g.W.Write g.T.Teller _ _ _ _ _ _ _ _ come _ _ ran _ _ _ (search rules ∙ sym (no_title _ _ _ refl next.fresh)) refl (search rules) (search rules)
 
 -- a block could not be handed on
 pub returns-in_err-ask_item-clause-ran : goal.returns-in_err-ask_item-clause-ran
@@ -85,7 +87,7 @@ returns-in_err-ask_item-clause-ran g c =
     let some : 0 < c.in-Some.next.passed + c.in-Some.next.refused = omega (arith, more.1) in
     let who = ap (λ (z : Item). z.keys) c.next_item.ensures.item ∙ inv.who in
     let here = ap (λ (z : Item). z.before) (next.who ∙ c.next_item.ensures.item) ∙ ap (λ (z : Asked). z.told) (sym c.next_item.ensures.told) in
-    let come = asked_same _ _ _ g.W.Write g.T.Teller _ _ _ _ _ _ _ _ _ _ _ _ c.next_item.ensures.told inv.come in
+    let come = asked_same _ _ _ _ g.W.Write g.T.Teller _ _ _ _ _ _ _ _ _ _ _ _ c.next_item.ensures.told inv.come in
     let far = goes_on _ _ _ _ _ _ _ (Ok (Some c.in-Some.next)) who (rw c.in-Some.is at next.ran) true come.first come.done come.reached in
     rw (err_is _ _ c.from_residual-in_err-ask_item.ensures.1)
-    (not_handed _ _ _ g.W.Write g.T.Teller _ _ _ _ _ _ _ _ come _ _ _ far _ _ _ (search rules ∙ sym (no_title _ _ _ refl next.fresh)) refl (search rules) some _ _ _ _ _ who here c.offset.ensures c.in_err-ask_item.ensures.handed)
+    (not_handed _ _ _ _ g.W.Write g.T.Teller _ _ _ _ _ _ _ _ come _ _ _ far _ _ _ (search rules ∙ sym (no_title _ _ _ refl next.fresh)) refl (search rules) some _ _ _ _ _ who here c.offset.ensures c.in_err-ask_item.ensures.handed)

@@ -2,7 +2,7 @@ use Rattle.std.proofs.Common.{◌≡◌, None}
 use Rattle.std.specs.Io.KnownBytes.{Keeps}
 use Rattle.ciborium_ll.specs.Views.{seen, waiting_of}
 use Rattle.cose_sift.specs.Taking.{IsDue}
-use Rattle.cose_sift.specs.Walking.{IsSound}
+use Rattle.cbor_walk.specs.Walking.{IsSound}
 use Rattle.cose_sift.proofs.TakenItem.{Begun}
 use Rattle.cose_sift.proofs.items.take_item.Given as goal
 

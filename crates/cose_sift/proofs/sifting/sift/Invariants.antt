@@ -1,8 +1,8 @@
 use Rattle.std.proofs.Common.{◌≡◌, None, []}
 use Rattle.ciborium_ll.specs.Views.{seen, waiting_of}
-use Rattle.cose_sift.specs.Grammar.{Item}
+use Rattle.cbor_walk.specs.Grammar.{Item}
 use Rattle.cose_sift.specs.Taking.{IsDue, Held, due_by, most_of}
-use Rattle.cose_sift.specs.Walking.{Goes, IsSound}
+use Rattle.cbor_walk.specs.Walking.{Goes, IsSound}
 use Rattle.cose_sift.proofs.Sieve.{Ran}
 use Rattle.cose_sift.proofs.sifting.sift.Given as goal
 

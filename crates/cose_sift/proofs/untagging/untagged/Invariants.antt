@@ -1,6 +1,6 @@
 use Rattle.std.proofs.Common.{◌≤◌, ◌+◌, ℕ, List, length}
 use Rattle.cose_sift.specs.Untagging.{Unwraps}
-use Rattle.cose_sift.specs.Walking.{IsOne}
+use Rattle.cbor_walk.specs.Walking.{IsOne}
 use Rattle.cose_sift.proofs.untagging.untagged.Given as goal
 
 abbrev pub invariant-tags : goal.invariant-tags

@@ -1,6 +1,6 @@
 use Rattle.std.proofs.Common.{[]}
-use Rattle.cose_sift.proofs.Going.{goes_from}
-use Rattle.cose_sift.proofs.Steps.{no_body, only_rest}
+use Rattle.cbor_walk.proofs.Going.{goes_from}
+use Rattle.cbor_walk.proofs.Steps.{no_body, only_rest}
 use Rattle.cose_sift.proofs.taking.Taking.is_done.Goals as goal
 
 pub returns-then-self-eq0-clause-done : goal.returns-then-self-eq0-clause-done

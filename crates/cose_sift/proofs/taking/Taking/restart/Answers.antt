@@ -1,6 +1,6 @@
 use Rattle.std.proofs.Common.{[]}
-use Rattle.cose_sift.proofs.Going.{goes_to}
-use Rattle.cose_sift.proofs.Steps.{no_body, only_rest}
+use Rattle.cbor_walk.proofs.Going.{goes_to}
+use Rattle.cbor_walk.proofs.Steps.{no_body, only_rest}
 use Rattle.cose_sift.proofs.taking.Taking.restart.Goals as goal
 
 pub returns-clause-starts : goal.returns-clause-starts

@@ -1,9 +1,9 @@
-use Rattle.std.proofs.Common.{◌≡◌, ◌++◌, ℕ, List, sym, subst, ◌∙◌, arith, reverse}
+use Rattle.std.proofs.Common.{◌≡◌, ◌++◌, ℕ, List, sym, subst, ◌∙◌, arith}
 use Rattle.std.proofs.lemmas.Result.{IfErr-weaker, on_ok_weaker}
 use Rattle.ciborium_ll.specs.Views.{seen}
-use Rattle.cose_sift.specs.Walking.{wanted_by}
+use Rattle.cbor_walk.specs.Walking.{wanted_by}
 use Rattle.cose_sift.specs.Taking.{due_by, Held}
-use Rattle.cose_sift.proofs.Steps.{wants_begin}
+use Rattle.cbor_walk.proofs.Steps.{walk_begins}
 use Rattle.cose_sift.proofs.Takes.{head_fails, walk_fails, head_goes_on, body_begins}
 use Rattle.cose_sift.proofs.Deep.{not_deep, head_not_deep, walk_deep}
 use Rattle.cose_sift.proofs.taking.Taking.step.Goals as goal
@@ -11,7 +11,7 @@ use Rattle.cose_sift.proofs.taking.Taking.step.Goals as goal
 pub returns-in-Err-clause-err : goal.returns-in-Err-clause-err
 returns-in-Err-clause-err g c =
     let none : c.args.self.now.body ≡ 0 = omega arith in
-    head_fails (due_by c.args.self.now) (body_begins (wanted_by c.args.self.now.walk) c.args.self.now.body none (λ i w. wants_begin c.args.self.now.walk.holds c.args.self.now.walk.due (reverse c.args.self.now.walk.levels.items) i (c.requires.due none) w))
+    head_fails (due_by c.args.self.now) (body_begins (wanted_by c.args.self.now.walk) c.args.self.now.body none (λ i w. walk_begins c.args.self.now.walk i (c.requires.due none) w))
     (seen g.R.Read c.args.decoder.now) (seen g.R.Read c.take_head.new.decoder) c.in-Err.stop c.in-Err.ensures.err
 
 pub returns-in-Err-take-clause-err : goal.returns-in-Err-take-clause-err

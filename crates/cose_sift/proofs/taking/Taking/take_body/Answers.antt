@@ -2,8 +2,8 @@ use Rattle.std.proofs.Common.{arith, ◌≡◌, ◌≤◌, ◌+◌, length, sym,
 use Rattle.std.proofs.lemmas.List.{length-take-le}
 use Rattle.std.proofs.lemmas.Result.{on_ok_weaker}
 use Rattle.ciborium_ll.specs.Views.{offset_of}
-use Rattle.cose_sift.specs.Walking.{wanted_by}
-use Rattle.cose_sift.proofs.Takes.{body_goes}
+use Rattle.cbor_walk.specs.Walking.{wanted_by}
+use Rattle.cbor_walk.proofs.Steps.{body_goes}
 use Rattle.cose_sift.proofs.taking.Taking.take_body.Goals as goal
 
 pub returns-clause-ok : goal.returns-clause-ok

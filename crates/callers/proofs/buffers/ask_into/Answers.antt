@@ -1,9 +1,0 @@
-use Rattle.callers.proofs.InFront.{in_front, none_for, told}
-use Rattle.callers.proofs.buffers.ask_into.Goals as goal
-
-pub returns-clause-some : goal.returns-clause-some
-returns-clause-some c =
-    in_front c.args.choice.nesting c.args.choice.layers _ _ _ _ c.ask.result c.lengths_of.result (λ output status few is. told _ _ _ _ _ _ _ output status few is) c.ask.ensures c.lengths_of.ensures
-
-pub returns-clause-none : goal.returns-clause-none
-returns-clause-none c = none_for c.ask.result _ c.lengths_of.result c.ask.ensures c.lengths_of.ensures

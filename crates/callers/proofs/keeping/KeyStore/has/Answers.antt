@@ -1,8 +1,0 @@
-use Rattle.std.proofs.Common.{rules, List, ℕ}
-use Rattle.std.specs.Global.{Vec}
-use Rattle.std.specs.Str.{bytes_eq}
-use Rattle.callers.proofs.Ids.{list_any-map}
-use Rattle.callers.proofs.keeping.KeyStore.has.Goals as goal
-
-pub returns : goal.returns
-returns c = let e = list_any-map (λ (k : List ℕ). bytes_eq k c.args.spelled.now) (λ (v : Vec ℕ). v.items) c.args.self.now.kept.items in rw e (search rules)

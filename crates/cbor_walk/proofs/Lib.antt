@@ -1,0 +1,4 @@
+pub mod Going
+pub mod Steps
+pub mod Deep
+pub mod Begins

@@ -1,0 +1,13 @@
+use Rattle.std.proofs.Common.{inr, refl}
+use Rattle.cose_gate_core.specs.Terms.{limits_of}
+use Rattle.cose_gate_records.specs.Calls.{PassedDigests}
+use Rattle.cose_gate_records.proofs.Runs.{answers}
+use Rattle.cose_gate_records.proofs.passing.pass_digests.Goals as goal
+
+pub returns-in-Some : goal.returns-in-Some
+returns-in-Some c = answers (limits_of c.in-Some.terms) _ _ _
+    (λ limits written status. PassedDigests limits c.args.accepted.now c.args.aad.now c.args.input.now c.pass_digests_within.new.lines c.pass_digests_within.result.lines written status)
+    _ _ _ c.in-Some.ensures c.pass_digests_within.ensures
+
+pub returns-in-None : goal.returns-in-None
+returns-in-None c = inr (c.in-None.ensures, c.no_limits.ensures.status, c.no_limits.ensures.length, refl, c.no_limits.ensures.lines, refl)

@@ -1,8 +1,0 @@
-use Rattle.std.proofs.Common.{◌≡◌, None, rules, reverse}
-use Rattle.cose_sift.proofs.Steps.{nothing_due}
-use Rattle.cose_sift.proofs.walk.Walk.is_done.Goals as goal
-
-pub returns-then-self-eq0-clause-done : goal.returns-then-self-eq0-clause-done
-returns-then-self-eq0-clause-done c = λ e.
-    let none : c.args.self.now.holds ≡ None = search rules in
-    nothing_due c.args.self.now.holds c.args.self.now.due (reverse c.args.self.now.levels.items) none c.if-self-eq0.true

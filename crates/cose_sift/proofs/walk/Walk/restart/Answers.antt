@@ -1,6 +1,0 @@
-use Rattle.std.proofs.Common.{refl, [], None}
-use Rattle.cose_sift.proofs.Steps.{item_due}
-use Rattle.cose_sift.proofs.walk.Walk.restart.Goals as goal
-
-pub returns-clause-starts : goal.returns-clause-starts
-returns-clause-starts c = item_due None 1 [] refl refl
