@@ -12,7 +12,7 @@ use Rattle.cose_gate_core.specs.Findings.{Bounds}
 use Rattle.cose_gate_core.specs.Questions.{Subject}
 use Rattle.cose_gate.specs.declared.form.Form.{Form}
 use Rattle.cose_gate.specs.ElementFaults.{CopiedNext}
-use Rattle.cose_gate.specs.Streaming.{WritesAll, IsProtected, IsHeader, RightUpTo, BeginsPayload, CopiedPart, part_copied}
+use Rattle.cose_gate.specs.Streaming.{WritesAll, IsProtected, IsHeaderItem, RightUpTo, BeginsPayload, CopiedPart, part_copied}
 use Rattle.cose_gate.proofs.Fed.{Fed}
 use Rattle.cose_gate.proofs.Whole.{Within}
 use Rattle.cose_gate.proofs.Wrong.{right_up_to}
@@ -31,7 +31,7 @@ module _ {W F : Type 0} (w : Writes W F) where
       record { answer = answer; text = t.bytes; written = t.has.1.1; next = starts l₀ l₁ t.bytes t.taken; fits = omega (arith, n) }
 
   -- behind the headers and the title in the payload's place
-  pub copied_part : (limits : Bounds) (f : Form) (o : Option ℕ) (a b : Tree) → IsProtected limits a → IsHeader limits b → (size : ℕ) (l₀ l₁ l₂ : Option (List ℕ)) (o₀ o₁ o₂ : ℕ) (old new : W)
+  pub copied_part : (limits : Bounds) (f : Form) (o : Option ℕ) (a b : Tree) → IsProtected limits a → IsHeaderItem limits b → (size : ℕ) (l₀ l₁ l₂ : Option (List ℕ)) (o₀ o₁ o₂ : ℕ) (old new : W)
       → Moves l₀ l₁ o₀ o₁ (Within limits f o (one_more a (one_more b no_trees))) → Moves l₁ l₂ o₁ o₂ (λ (x : List ℕ). Title x (Bytes (Some size)))
       → CopiedNext w old new l₂ size → CopiedPart limits w old new l₀
   copied_part limits f o a b first second size l₀ l₁ l₂ o₀ o₁ o₂ old new t s c = part_copied c.answer c.text c.written (place l₀ l₁ l₂ t s c.next)

@@ -20,7 +20,7 @@ use Rattle.cose_gate_core.proofs.Unique.{no_message}
 use Rattle.cose_gate.specs.declared.fault.StreamFault.{StreamFault}
 use Rattle.cose_gate.specs.declared.fault.StreamFault.TheVariants as fault
 use Rattle.cose_gate.specs.Stated.{IsSingle, IsSingleTag, Stated, closing}
-use Rattle.cose_gate.specs.Streaming.{NamesWhy, Unstreamed, UnstreamedBy, IsShapeFault, Opening, Tells, IsLongFor, Answered}
+use Rattle.cose_gate.specs.Streaming.{NamesWhy, Unstreamed, UnstreamedBy, IsShapeFault, MessageOpening, TellsFault, IsLongFor, Answered}
 use Rattle.cose_gate.proofs.Faults.{Names}
 use Rattle.cose_gate.proofs.Forms.{shaped, not_four_items, form_by}
 use Rattle.cose_gate.proofs.Lengths.{stated_whole}
@@ -29,7 +29,7 @@ use Rattle.cose_gate.proofs.Elements.{behind_two}
 stated_first : (b front rest r : List ℕ) (n : ℕ) (h : Header) (s : Stated front n) → b ≡ front ++ rest → Begins b h r → h ≡ Tag s.number
 stated_first b front rest r n h s e t = (split_heads t.title s.tag_title r _ h (Tag s.number) t.is_title s.is_tag (sym t.whole ∙ stated_whole b front rest n s e)).heads
 
-stated_third : (limits : Bounds) (b front rest : List ℕ) (n : ℕ) (h : Header) → Stated front n → b ≡ front ++ rest → Opening limits b h → h ≡ Bytes (Some n)
+stated_third : (limits : Bounds) (b front rest : List ℕ) (n : ℕ) (h : Header) → Stated front n → b ≡ front ++ rest → MessageOpening limits b h → h ≡ Bytes (Some n)
 stated_third limits b front rest n h s e o =
     let tail : List ℕ = (s.payload ++ (s.last ++ closing s.count)) ++ rest in
     let p = o.right in
@@ -51,7 +51,7 @@ module _ (levels layers : ℕ) {E : Type 0} (ends : E → Bool) (b : List ℕ) (
   there : Front b levels t rest
   there = record { spelling = front; whole = e; reads = reads }
 
-  due : (f : StreamFault E) → Tells ends (UnstreamedBy (within levels layers false) (o + length b) b) (IsLongFor room o b) f → Answered ends (IsLongFor room o b) (Err f)
+  due : (f : StreamFault E) → TellsFault ends (UnstreamedBy (within levels layers false) (o + length b) b) (IsLongFor room o b) f → Answered ends (IsLongFor room o b) (Err f)
   due (fault.Decode (de.Io x)) k = λ y. excludes (o + length b) b levels end (k y) t rest there
   due (fault.Decode (de.Syntax p)) k = excludes (o + length b) b levels (syntax k.0) k.1 t rest there
   due (fault.Decode (de.Semantic x y)) k = excludes (o + length b) b levels (semantic y) k.1 t rest there

@@ -6,7 +6,7 @@ use Rattle.ciborium_ll.specs.declared.hdr.Header.TheVariants.{Break, Simple}
 use Rattle.ciborium_ll.specs.declared.hdr.Error.{Error as HeadError}
 use Rattle.ciborium_ll.specs.declared.hdr.Error.TheVariants as below
 use Rattle.ciborium_ll.specs.Title.{Title, Begins, title_of, FitsHeader}
-use Rattle.ciborium_ll.specs.Reading.{Moves, Tells as HeadTells, Ends, IsBadByte, due}
+use Rattle.ciborium_ll.specs.Reading.{Moves, TellsFault as HeadTells, Ends, IsBadByte, due}
 use Rattle.ciborium_ll.proofs.Shortest.{title_of_is}
 use Rattle.ciborium.specs.declared.de.Error.{Error}
 use Rattle.ciborium.specs.declared.de.Error.TheVariants as de
@@ -24,12 +24,12 @@ use Rattle.coset_labels.specs.declared.error.CoseError.{CoseError}
 use Rattle.coset_labels.specs.declared.error.CoseError.TheVariants as cose
 use Rattle.cose_gate.specs.declared.fault.StreamFault.{StreamFault}
 use Rattle.cose_gate.specs.declared.fault.StreamFault.TheVariants as fault
-use Rattle.cose_gate.specs.Streaming.{Why, damaged, untagged, tagged, shape, without_payload, without_length, refused, HoldsNoMemory, Tells, IsLongFor, fault_by, shape_by}
+use Rattle.cose_gate.specs.Streaming.{Why, damaged, untagged, tagged, shape, without_payload, without_length, refused, HoldsNoMemory, TellsFault, IsLongFor, fault_by, shape_by}
 use Rattle.cose_gate.specs.ElementFaults.{TitleFault, PartFault, NoBreak, IsUnexpected, WrongPart}
 
 -- what a fault says if l was left and o was the offset
 abbrev pub Names : {E : Type 0} → (E → Bool) → (ℕ → List ℕ → Why → Type 0) → ℕ → Option (List ℕ) → ℕ → StreamFault E → Type 0
-Names ends D room l o f = HoldsNoMemory f × IfKnown l (λ b. Tells ends (D (o + length b) b) (IsLongFor room o b) f)
+Names ends D room l o f = HoldsNoMemory f × IfKnown l (λ b. TellsFault ends (D (o + length b) b) (IsLongFor room o b) f)
 
 -- no fault that is made of another holds being out of memory
 pub fault_holds : {E : Type 0} (e : Error E) → HoldsNoMemory (fault_by e)
@@ -61,7 +61,7 @@ unexpected_holds fault.Detached u = absurd u
 unexpected_holds fault.Unsized u = absurd u
 unexpected_holds fault.Memory u = absurd u
 
-pub tells_as : {E : Type 0} (ends : E → Bool) (D D' : Why → Type 0) (long long' : Type 0) (f : StreamFault E) → ((w : Why) → D w → D' w) → (long → long') → Tells ends D long f → Tells ends D' long' f
+pub tells_as : {E : Type 0} (ends : E → Bool) (D D' : Why → Type 0) (long long' : Type 0) (f : StreamFault E) → ((w : Why) → D w → D' w) → (long → long') → TellsFault ends D long f → TellsFault ends D' long' f
 tells_as ends D D' long long' (fault.Decode (de.Io e)) d l t = λ x. d (damaged end) (t x)
 tells_as ends D D' long long' (fault.Decode (de.Syntax p)) d l t = d (damaged (syntax p)) t
 tells_as ends D D' long long' (fault.Decode (de.Semantic o k)) d l t = (t.0, d (damaged (semantic k)) t.1)
@@ -77,7 +77,7 @@ tells_as ends D D' long long' fault.Memory d l t = d refused t
 
 -- a fault of reading one item
 fails_tells : {E : Type 0} (ends : E → Bool) (Q : Type 0) (D : Fault → Type 0) (D' : Why → Type 0) (long long' : Type 0) (e : Error E)
-    → ((f : Fault) → D f → D' (damaged f)) → D' refused → (long → long') → Fails ends Q D long e → Tells ends D' long' (fault_by e)
+    → ((f : Fault) → D f → D' (damaged f)) → D' refused → (long → long') → Fails ends Q D long e → TellsFault ends D' long' (fault_by e)
 fails_tells ends Q D D' long long' (de.Io e) d m l w = λ x. d end (w x).0
 fails_tells ends Q D D' long long' (de.Syntax p) d m l w = d (syntax p) w
 fails_tells ends Q D D' long long' (de.Semantic o k) d m l w = (w.0, d (semantic k) w.1)
@@ -91,7 +91,7 @@ pub pull_names : {E : Type 0} (ends : E → Bool) (l₀ l₁ : Option (List ℕ)
 pull_names ends l₀ l₁ o₀ o₁ e w = (fault_holds (lifted e), go l₀ e w (fails_pull ends l₀ l₁ o₀ o₁ e (lifted e) refl w))
   where
     go : (l₀ : Option (List ℕ)) (e : HeadError _) → HeadTells ends (Ends l₀ l₁ o₀ o₁) (λ p. (p ≡ o₀) × Moves l₀ l₁ o₀ o₁ IsBadByte) (2 ^ 64 ≤ o₀ + 9) e
-        → IfKnown l₀ (λ b. FailsAt ends b o₀ o₁ TitleDamage (lifted e)) → IfKnown l₀ (λ b. Tells ends (TitleFault (o₀ + length b) b) (IsLongFor 0 o₀ b) (fault_by (lifted e)))
+        → IfKnown l₀ (λ b. FailsAt ends b o₀ o₁ TitleDamage (lifted e)) → IfKnown l₀ (λ b. TellsFault ends (TitleFault (o₀ + length b) b) (IsLongFor 0 o₀ b) (fault_by (lifted e)))
     go None e w k = tt
     go (Some b) (below.Io x) w k = λ t. (k t).0
     go (Some b) (below.Syntax p) w k = k
@@ -104,8 +104,8 @@ pub tells_behind : {E : Type 0} (ends : E → Bool) (l₀ l₁ : Option (List �
     → Names ends D room l₁ o₁ f → Names ends D' room' l₀ o₀ f
 tells_behind ends l₀ l₁ o₀ o₁ room room' P D D' f t le step n = (n.0, go l₀ l₁ t n.1)
   where
-    go : (l₀ l₁ : Option (List ℕ)) → Moves l₀ l₁ o₀ o₁ P → IfKnown l₁ (λ b. Tells ends (D (o₁ + length b) b) (IsLongFor room o₁ b) f)
-        → IfKnown l₀ (λ b. Tells ends (D' (o₀ + length b) b) (IsLongFor room' o₀ b) f)
+    go : (l₀ l₁ : Option (List ℕ)) → Moves l₀ l₁ o₀ o₁ P → IfKnown l₁ (λ b. TellsFault ends (D (o₁ + length b) b) (IsLongFor room o₁ b) f)
+        → IfKnown l₀ (λ b. TellsFault ends (D' (o₀ + length b) b) (IsLongFor room' o₀ b) f)
     go None l₁ t k = tt
     go (Some b) None t k = absurd t.taken
     go (Some b) (Some rest) t k =
@@ -128,7 +128,7 @@ pub known_tells : {E : Type 0} (ends : E → Bool) (l : Option (List ℕ)) (o ro
     → ((stop : ℕ) (b : List ℕ) (w : Why) → length b ≤ stop → D stop b w → D' stop b w) → Names ends D room l o f → Names ends D' room' l o f
 known_tells ends l o room room' D D' f le step n = (n.0, go l n.1)
   where
-    go : (l : Option (List ℕ)) → IfKnown l (λ b. Tells ends (D (o + length b) b) (IsLongFor room o b) f) → IfKnown l (λ b. Tells ends (D' (o + length b) b) (IsLongFor room' o b) f)
+    go : (l : Option (List ℕ)) → IfKnown l (λ b. TellsFault ends (D (o + length b) b) (IsLongFor room o b) f) → IfKnown l (λ b. TellsFault ends (D' (o + length b) b) (IsLongFor room' o b) f)
     go None k = tt
     go (Some b) k = tells_as ends _ _ _ _ f (λ w d. step (o + length b) b w (omega arith) d) (λ l. omega arith) k
 
@@ -152,7 +152,7 @@ pub part_item : {E : Type 0} (ends : E → Bool) (n : ℕ) (W : CoseFault → Tr
 part_item ends n W l₀ l₁ l₂ o₀ o₁ o₂ o₃ h e t not fits same place k = (fault_holds e, go l₀ l₁ t same)
   where
     go : (l₀ l₁ : Option (List ℕ)) → Moves l₀ l₁ o₀ o₁ (λ (b : List ℕ). Title b h) → l₂ ≡ prepend_known (title_of h) l₁
-        → IfKnown l₀ (λ b. Tells ends (PartFault n W (o₀ + length b) b) (IsLongFor 0 o₀ b) (fault_by e))
+        → IfKnown l₀ (λ b. TellsFault ends (PartFault n W (o₀ + length b) b) (IsLongFor 0 o₀ b) (fault_by e))
     go None l₁ t same = tt
     go (Some b) None t same = absurd t.taken
     go (Some b) (Some rest) t same =
@@ -191,7 +191,7 @@ pub part_wrong : {E : Type 0} (ends : E → Bool) (k : ℕ) (W : CoseFault → T
     → ((f : CoseFault) → W f v → f ≢ no_memory) → (e ≢ cose.Memory → W (fault_of e) v) → Names {E = E} ends (PartFault k W) 0 l₀ o₀ (shape_by e)
 part_wrong {E} ends k W l₀ l₁ o₀ o₁ v e t named wrong = (shape_holds E e (λ other. named (fault_of e) (wrong other)), place l₀ l₁ t)
   where
-    place : (l₀ l₁ : Option (List ℕ)) → Moves l₀ l₁ o₀ o₁ (λ (b : List ℕ). Reads b k v) → IfKnown l₀ (λ b. Tells {E = E} ends (PartFault k W (o₀ + length b) b) (IsLongFor 0 o₀ b) (shape_by e))
+    place : (l₀ l₁ : Option (List ℕ)) → Moves l₀ l₁ o₀ o₁ (λ (b : List ℕ). Reads b k v) → IfKnown l₀ (λ b. TellsFault {E = E} ends (PartFault k W (o₀ + length b) b) (IsLongFor 0 o₀ b) (shape_by e))
     place None l₁ t = tt
     place (Some b) None t = absurd t.taken
     place (Some b) (Some rest) t = go e wrong
@@ -199,7 +199,7 @@ part_wrong {E} ends k W l₀ l₁ o₀ o₁ v e t named wrong = (shape_holds E e
         there : (f : CoseFault) → W f v → ((f ≡ unexpected) × ((r : List ℕ) × (b ≡ 255 ∷ r))) ⊎ ((v : Tree) × (rest : List ℕ) × Front b k v rest × W f v)
         there f w = inr (v, rest, record { spelling = t.bytes; whole = t.taken; reads = t.has }, w)
 
-        go : (e : CoseError) → (e ≢ cose.Memory → W (fault_of e) v) → Tells {E = E} ends (PartFault k W (o₀ + length b) b) (IsLongFor 0 o₀ b) (shape_by e)
+        go : (e : CoseError) → (e ≢ cose.Memory → W (fault_of e) v) → TellsFault {E = E} ends (PartFault k W (o₀ + length b) b) (IsLongFor 0 o₀ b) (shape_by e)
         go cose.Memory w = tt
         go (cose.DecodeFailed x) w = there _ (w (λ q. cc))
         go cose.DuplicateMapKey w = there _ (w (λ q. cc))
@@ -217,7 +217,7 @@ part_refused ends k W l₀ l₁ o₀ o₁ v e t named (inl m) = part_wrong ends 
 part_refused ends k W l₀ l₁ o₀ o₁ v e t named (inr w) = part_wrong ends k (WrongPart W) l₀ l₁ o₀ o₁ v e t named (λ n. w)
 
 -- a fault of a shape that was not expected
-unexpected_tells : {E : Type 0} (ends : E → Bool) (D : Why → Type 0) (long : Type 0) (f : StreamFault E) → IsUnexpected f → D (shape unexpected) → Tells ends D long f
+unexpected_tells : {E : Type 0} (ends : E → Bool) (D : Why → Type 0) (long : Type 0) (f : StreamFault E) → IsUnexpected f → D (shape unexpected) → TellsFault ends D long f
 unexpected_tells ends D long (fault.Shape e) u d = subst (λ (z : CoseFault). D (shape z)) (sym u) d
 unexpected_tells ends D long (fault.Decode e) u d = absurd u
 unexpected_tells ends D long fault.NotTagged u d = absurd u
@@ -235,7 +235,7 @@ pub unexpected_here : {E : Type 0} (ends : E → Bool) (l₀ l₁ : Option (List
     → ((stop : ℕ) (b rest : List ℕ) → Begins b h rest → D stop b (shape unexpected)) → Names ends D 0 l₀ o₀ f
 unexpected_here ends l₀ l₁ o₀ o₁ h D f t u d = (unexpected_holds f u, go l₀ l₁ t)
   where
-    go : (l₀ l₁ : Option (List ℕ)) → Moves l₀ l₁ o₀ o₁ (λ (b : List ℕ). Title b h) → IfKnown l₀ (λ b. Tells ends (D (o₀ + length b) b) (IsLongFor 0 o₀ b) f)
+    go : (l₀ l₁ : Option (List ℕ)) → Moves l₀ l₁ o₀ o₁ (λ (b : List ℕ). Title b h) → IfKnown l₀ (λ b. TellsFault ends (D (o₀ + length b) b) (IsLongFor 0 o₀ b) f)
     go None l₁ t = tt
     go (Some b) None t = absurd t.taken
     go (Some b) (Some rest) t = unexpected_tells ends (D (o₀ + length b) b) (IsLongFor 0 o₀ b) f u (d (o₀ + length b) b rest (record { title = t.bytes; is_title = t.has; whole = t.taken }))

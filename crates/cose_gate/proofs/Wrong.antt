@@ -28,7 +28,7 @@ use Rattle.cose_gate.specs.declared.fault.StreamFault.{StreamFault}
 use Rattle.cose_gate.specs.declared.form.Form.{Form}
 use Rattle.cose_gate.specs.Forms.{tag_number}
 use Rattle.cose_gate.specs.Stated.{IsFour}
-use Rattle.cose_gate.specs.Streaming.{Why, damaged, untagged, tagged, shape, without_payload, without_length, refused, UnstreamedBy, IsBegun, IsProtected, IsHeader, AreInPlace, RightUpTo, ShowsFault, break_too_early, no_protected, no_header, no_signature, not_closed, IsShapeFault, IsHeaderFault}
+use Rattle.cose_gate.specs.Streaming.{Why, damaged, untagged, tagged, shape, without_payload, without_length, refused, UnstreamedBy, BeginsMessage, IsProtected, IsHeaderItem, AreInPlace, RightUpTo, ShowsFault, break_too_early, no_protected, no_header, no_signature, not_closed, IsShapeFault, IsHeaderFault}
 use Rattle.cose_gate.specs.ElementFaults.{PartFault, TagFault, NoBreak, WrongPart, NoneWrong, NoBytes, ShortFault, CloseFault}
 use Rattle.cose_gate.proofs.Faults.{Names, known_tells, tells_behind}
 use Rattle.cose_gate.proofs.Forms.{WrongForm, shaped, not_four_items, wrong_parts, wrong_last, not_two, not_three, single_tag}
@@ -129,7 +129,7 @@ module _ (limits : Bounds) where
   }
 
   -- a message of this kind is begun, with its array
-  pub begun : (f : Form) (o : Option ℕ) (done : Trees) (x rest : List ℕ) → Within limits f o done x → IsBegun (x ++ rest)
+  pub begun : (f : Form) (o : Option ℕ) (done : Trees) (x rest : List ℕ) → Within limits f o done x → BeginsMessage (x ++ rest)
   begun f o done x rest w = record {
     number = tag_number f;
     inside = w.array_title ++ (w.inner ++ rest);
@@ -300,7 +300,7 @@ module _ (limits : Bounds) where
       has e v (one_more c (one_more d no_trees)) w = (λ n. wrong_parts limits f a v c d e (in_unprotected e w), inr (inr w))
       has e v (one_more c (one_more d (one_more x xs))) w = (λ n. absurd (omega arith), inr (inr w))
 
-  pub signature_place : (f : Form) (a b : Tree) (payload : List ℕ) → IsProtected limits a → IsHeader limits b → Place limits f (one_more a (one_more b (one_more (bytes payload) no_trees))) NoBytes
+  pub signature_place : (f : Form) (a b : Tree) (payload : List ℕ) → IsProtected limits a → IsHeaderItem limits b → Place limits f (one_more a (one_more b (one_more (bytes payload) no_trees))) NoBytes
   signature_place f a b payload first second = record {
     in_place = (first, second, (refl, tt));
     shows = λ all items rest o v e right there wrong. subst (ShowsFault limits all) (sym wrong.0) (no_signature o (one_more a (one_more b (one_more (bytes payload) no_trees))) v items rest right refl there wrong.1);
@@ -356,4 +356,4 @@ module _ (limits : Bounds) where
       go : (l₀ l₁ : Option (List ℕ)) → Moves l₀ l₁ o₀ o₁ (Within limits f o done) → IfKnown l₀ (λ b. UnstreamedBy limits (o₀ + length b) b refused)
       go None l₁ t = tt
       go (Some b) None t = absurd t.taken
-      go (Some b) (Some rest) t = let w = begun f o done t.bytes rest t.has in subst IsBegun (sym t.taken) w
+      go (Some b) (Some rest) t = let w = begun f o done t.bytes rest t.has in subst BeginsMessage (sym t.taken) w

@@ -19,7 +19,7 @@ use Rattle.cose_gate_core.specs.declared.judge.Judge.{Ghosts as Judges}
 -- what is seen of a gate's decoder, writer, report and judge: what judge and report were told, what
 -- was written and is to come, which header waits, how often reader and writer have failed, and what
 -- stays of each
-pub record Seen (T S Who : Type 0) : Type 0 where
+pub record GateSeen (T S Who : Type 0) : Type 0 where
   pub at : GateState T S
   pub waiting : Option Header
   pub read_failures : ℕ
@@ -30,7 +30,7 @@ pub record Seen (T S Who : Type 0) : Type 0 where
 
 abbrev pub seen_of : {R E W F P J : Type 0}
     (r : Reads R E) (w : Writes W F) (p : Reports P) (j : Judges J)
-    → Decoder R → W → P → J → Seen j.Told p.State j.Who
+    → Decoder R → W → P → J → GateSeen j.Told p.State j.Who
 seen_of r w p j decoder out report judge = record {
   at = sight_of r w p j decoder out report judge;
   waiting = waiting_of decoder;
@@ -47,8 +47,8 @@ pub record Call (T S Who E : Type 0) : Type 0 where
   pub ends : E → Bool
   pub live : Bool
   pub rules : Rules T S
-  pub old : Seen T S Who
-  pub new : Seen T S Who
+  pub old : GateSeen T S Who
+  pub new : GateSeen T S Who
 
 -- by what the bounds of its reader, writer, report and judge bring, within these limits and over
 -- this external data

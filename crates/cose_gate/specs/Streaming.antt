@@ -70,9 +70,9 @@ IsPlaced old place =
     → (place.at ≡ old.offset + length (before_payload s)) × (place.length ≡ size))
 
 -- within the limits if none are chosen
-abbrev pub Checked : {T : Type 0} → (T → Question → T) → (Question → Bool) → List ℕ → T → T → ℕ
+abbrev pub CheckedAsUsual : {T : Type 0} → (T → Question → T) → (Question → Bool) → List ℕ → T → T → ℕ
     → List ℕ → Bool → List ℕ → Type 0
-Checked decided allows aad told told' room lengths answer b =
+CheckedAsUsual decided allows aad told told' room lengths answer b =
     CheckedBy usual decided allows aad told told' room lengths answer b
 
 -- why no message was checked
@@ -91,19 +91,19 @@ HoldsNoMemory e = Unit {0}
 
 -- what a fault tells: why, or that offsets grow too long; a failure of the reader tells nothing of
 -- the bytes
-abbrev pub Tells : {E : Type 0} → (E → Bool) → (Why → Type 0) → Type 0 → StreamFault E → Type 0
-Tells ends D long (fault.Decode (de.Io e)) = IsTrue (ends e) → D (damaged end)
-Tells ends D long (fault.Decode (de.Syntax p)) = D (damaged (syntax p))
-Tells ends D long (fault.Decode (de.Semantic o k)) = (o ≡ None) × D (damaged (semantic k))
-Tells ends D long (fault.Decode de.RecursionLimitExceeded) = D (damaged deep)
-Tells ends D long (fault.Decode de.Memory) = ⊥
-Tells ends D long (fault.Decode de.TooLong) = long
-Tells ends D long fault.NotTagged = D untagged
-Tells ends D long (fault.OtherTag n) = D (tagged n)
-Tells ends D long (fault.Shape e) = D (shape (fault_of e))
-Tells ends D long fault.Detached = D without_payload
-Tells ends D long fault.Unsized = D without_length
-Tells ends D long fault.Memory = D refused
+abbrev pub TellsFault : {E : Type 0} → (E → Bool) → (Why → Type 0) → Type 0 → StreamFault E → Type 0
+TellsFault ends D long (fault.Decode (de.Io e)) = IsTrue (ends e) → D (damaged end)
+TellsFault ends D long (fault.Decode (de.Syntax p)) = D (damaged (syntax p))
+TellsFault ends D long (fault.Decode (de.Semantic o k)) = (o ≡ None) × D (damaged (semantic k))
+TellsFault ends D long (fault.Decode de.RecursionLimitExceeded) = D (damaged deep)
+TellsFault ends D long (fault.Decode de.Memory) = ⊥
+TellsFault ends D long (fault.Decode de.TooLong) = long
+TellsFault ends D long fault.NotTagged = D untagged
+TellsFault ends D long (fault.OtherTag n) = D (tagged n)
+TellsFault ends D long (fault.Shape e) = D (shape (fault_of e))
+TellsFault ends D long fault.Detached = D without_payload
+TellsFault ends D long fault.Unsized = D without_length
+TellsFault ends D long fault.Memory = D refused
 
 -- offsets pass what they can be, if so many bytes are asked for at a time
 abbrev pub IsLongFor : ℕ → ℕ → List ℕ → Type 0
@@ -120,15 +120,15 @@ abbrev pub NamesWhy : {E : Type 0} → (E → Bool) → (ℕ → List ℕ → Wh
     → StreamFault E → Type 0
 NamesWhy ends D room old f =
     HoldsNoMemory f
-    × IfKnown old.left (λ b. Tells ends (D (old.offset + length b) b)
+    × IfKnown old.left (λ b. TellsFault ends (D (old.offset + length b) b)
     (IsLongFor room old.offset b) f)
 
 -- an element that is a protected header, or a header
 abbrev pub IsProtected : Bounds → Tree → Type 0
 IsProtected limits t = (p : ProtectedFields) × HasProtected limits.nesting t p limits.layers
 
-abbrev pub IsHeader : Bounds → Tree → Type 0
-IsHeader limits t = (h : HeaderFields) × HasHeader limits.nesting t h limits.layers
+abbrev pub IsHeaderItem : Bounds → Tree → Type 0
+IsHeaderItem limits t = (h : HeaderFields) × HasHeader limits.nesting t h limits.layers
 
 abbrev pub AreStrings : Trees → Type 0
 AreStrings no_trees = Unit {0}
@@ -140,7 +140,7 @@ abbrev pub AreInPlace : Bounds → Trees → Type 0
 AreInPlace limits no_trees = Unit {0}
 AreInPlace limits (one_more a no_trees) = IsProtected limits a
 AreInPlace limits (one_more a (one_more b ts)) =
-    IsProtected limits a × IsHeader limits b × AreStrings ts
+    IsProtected limits a × IsHeaderItem limits b × AreStrings ts
 
 -- the bytes begin with a tag of such a message, an array of four, and these elements of it, each
 -- right in its place; the tag and the array are open around them
@@ -157,7 +157,7 @@ pub record RightUpTo (limits : Bounds) (b : List ℕ) (count : Option ℕ) (elem
   pub in_place : AreInPlace limits elements
 
 -- the bytes are right up to the payload, and a title of h is in its place
-pub record Opening (limits : Bounds) (b : List ℕ) (h : Header) : Type 0 where
+pub record MessageOpening (limits : Bounds) (b : List ℕ) (h : Header) : Type 0 where
   pub count : Option ℕ
   pub headers : Trees
   pub third : List ℕ
@@ -170,7 +170,7 @@ pub record Opening (limits : Bounds) (b : List ℕ) (h : Header) : Type 0 where
 -- (RFC 9052, sections 4.2 and 6.2)
 pub record BeginsPayload (limits : Bounds) (b text : List ℕ) : Type 0 where
   pub size : ℕ
-  pub opening : Opening limits b (Bytes (Some size))
+  pub opening : MessageOpening limits b (Bytes (Some size))
   pub rest : List ℕ
   pub follows : opening.behind ≡ text ++ rest
   pub fits : length text ≤ size
@@ -200,7 +200,7 @@ pub data ShowsFault (limits : Bounds) (b : List ℕ) : CoseFault → Type 0 wher
       → RightUpTo limits b count (one_more first no_trees) items
       → Front items (limits.nesting - 2) t rest
       → WrongHeader limits.nesting t limits.layers e → ShowsFault limits b e
-  no_payload : (h : Header) → Opening limits b h → ((o : Option ℕ) → h ≢ Bytes o)
+  no_payload : (h : Header) → MessageOpening limits b h → ((o : Option ℕ) → h ≢ Bytes o)
       → h ≢ Simple 22 → h ≢ Simple 23 → ShowsFault limits b unexpected
   no_signature : (count : Option ℕ) (three : Trees) (t : Tree) (items rest : List ℕ)
       → RightUpTo limits b count three items → tree_count three ≡ 3
@@ -235,7 +235,7 @@ IsShapeFault limits b t e =
     ⊎ ((elements : Trees) × IsOtherCount b t elements × IsHeaderFault limits elements e)
 
 -- the bytes begin with the tag of a message that is checked, and an array of four
-pub record IsBegun (b : List ℕ) : Type 0 where
+pub record BeginsMessage (b : List ℕ) : Type 0 where
   pub number : ℕ
   pub inside : List ℕ
   pub count : Option ℕ
@@ -258,9 +258,9 @@ UnstreamedBy limits stop b (shape e) =
     ShowsFault limits b e
     × ((t : Tree) (rest : List ℕ) → Front b limits.nesting t rest → IsShapeFault limits b t e)
 UnstreamedBy limits stop b without_payload =
-    Opening limits b (Simple 22) ⊎ Opening limits b (Simple 23)
-UnstreamedBy limits stop b without_length = Opening limits b (Bytes None)
-UnstreamedBy limits stop b refused = IsBegun b
+    MessageOpening limits b (Simple 22) ⊎ MessageOpening limits b (Simple 23)
+UnstreamedBy limits stop b without_length = MessageOpening limits b (Bytes None)
+UnstreamedBy limits stop b refused = BeginsMessage b
 
 -- within the limits if none are chosen
 abbrev pub Unstreamed : ℕ → List ℕ → Why → Type 0

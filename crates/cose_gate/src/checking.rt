@@ -3,7 +3,8 @@ ghost use Rattle.std.specs.Prelude.{◌≡◌, ◌<◌, IfOk, IfErr, OnErr, leng
 ghost use Rattle.ciborium_ll.specs.Seen.{Takes};
 ghost use Rattle.ciborium_ll.specs.Views.{left_of, offset_of, seen};
 ghost use Rattle.cose_gate_core.specs.Terms.{limits_by};
-ghost use Rattle.cose_gate.specs.Streaming.{Checked, CheckedBy, CopiedBy, CopiedPart, WritesAll};
+ghost use Rattle.cose_gate.specs.Streaming.{CheckedAsUsual, CheckedBy, CopiedBy, CopiedPart};
+ghost use Rattle.cose_gate.specs.Streaming.{WritesAll};
 ghost use Rattle.cose_gate.specs.Streaming.{Unstreamed, UnstreamedBy, IsFarFor, NamesWhy, Steady};
 ghost use Rattle.cose_gate.specs.Streaming.{AnswersStated, AnswersStatedBy, IsPlaced};
 
@@ -44,8 +45,8 @@ pub fn stream_check<R: Read, J: Judge>(
     // A judged message of a stated length was taken whole; the answer is the judge's to its
     // questions, and it was told of them alone.
     ensures ok { IfOk result (λ yes. Takes (seen R.Read decoder.old) (seen R.Read decoder.new)
-        (Checked J.decided (J.yes (J.who judge.old)) aad.now (J.told judge.old) (J.told judge.new)
-        (length buffer.old) (J.pieces judge.new) yes)) }
+        (CheckedAsUsual J.decided (J.yes (J.who judge.old)) aad.now (J.told judge.old)
+        (J.told judge.new) (length buffer.old) (J.pieces judge.new) yes)) }
 
     // Each fault says what is true of the bytes, and the judge was told nothing.
     ensures err { IfErr result (NamesWhy R.ends Unstreamed (length buffer.old)

@@ -4,7 +4,7 @@ use Rattle.std.specs.Prelude.{◌⊎◌}
 use Rattle.coset_labels.specs.Limits.{AreLimits}
 use Rattle.cose_gate.specs.Findings.{Bounds, within}
 use Rattle.cose_gate.specs.Questions.{Question}
-use Rattle.cose_gate.specs.Streaming.{refused, IsBegun}
+use Rattle.cose_gate.specs.Streaming.{refused, BeginsMessage}
 use Rattle.cose_gate_c.proofs.Covered.{covered_ends}
 use Rattle.cose_gate_c.proofs.Streamed.{WasRead, in_front}
 use Rattle.cose_gate_c.specs.Keeping.{Told, gist_of, nothing_told, told_with, WritesRecord, WritesIfKept}
@@ -13,14 +13,14 @@ use Rattle.cose_gate.specs.declared.checking.Place.{Place}
 use Rattle.cose_gate_c.specs.declared.stream_asking.StreamQuestion.{StreamQuestion}
 
 -- memory ran out after the message was read
-pub forgets : (limits : Bounds) (aad input old new : List ℕ) (a : StreamQuestion) → IsBegun input → new ≡ old → IsUnasked 4 7 a → TellsFront limits aad input old new a
+pub forgets : (limits : Bounds) (aad input old new : List ℕ) (a : StreamQuestion) → BeginsMessage input → new ≡ old → IsUnasked 4 7 a → TellsFront limits aad input old new a
 forgets limits aad input old new a b same u = record {
   ended = inr (same, record { why = refused; shown = b; said = u });
   stated = λ t front rest message size e reads judged single stated. inr u.fault_is;
 }
 
 module _ (limits : Bounds) (allows : Question → Bool) (aad input old new : List ℕ) (told told' : Told) (yes : Bool) (at : ℕ) (place : Place) (size : ℕ) (a : StreamQuestion)
-    (t : WasRead limits allows told_with aad input told told' yes at place) (b : IsBegun input) (sizes : size ≡ at) where
+    (t : WasRead limits allows told_with aad input told told' yes at place) (b : BeginsMessage input) (sizes : size ≡ at) where
   shown : WritesRecord t.asked.question t.payload place size old new a ⊎ ((new ≡ old) × IsUnasked 4 7 a) → TellsFront limits aad input old new a
   unfolding in_front
   shown (inl s) = record {

@@ -20,7 +20,7 @@ use Rattle.cose_gate.specs.Reading.{IfKnown}
 use Rattle.cose_gate.specs.SignedStructure.{sign1_covered}
 use Rattle.cose_gate.proofs.Lengths.{stated_whole}
 use Rattle.cose_gate.specs.Stated.{IsSingle, Stated, closing, before_payload}
-use Rattle.cose_gate.specs.Streaming.{CheckedBy, CopiedBy, damaged, untagged, tagged, shape, without_payload, without_length, refused, HoldsNoMemory, Tells, IsLongFor, IsBegun, UnstreamedBy, Answered}
+use Rattle.cose_gate.specs.Streaming.{CheckedBy, CopiedBy, damaged, untagged, tagged, shape, without_payload, without_length, refused, HoldsNoMemory, TellsFault, IsLongFor, BeginsMessage, UnstreamedBy, Answered}
 use Rattle.cose_gate.specs.Tree.{Tree}
 use Rattle.cose_gate.specs.declared.fault.StreamFault.{StreamFault}
 use Rattle.cose_gate.specs.declared.fault.StreamFault.TheVariants as fault
@@ -113,7 +113,7 @@ module _ {T : Type 0} (limits : Bounds) (allows : Question → Bool) (decided : 
       }
 
   -- such a message begins with its tag and an array of four
-  begun : (left' : Option (List ℕ)) (at : ℕ) → Moves (Some input) left' 0 at (CheckedBy limits decided allows aad told told' room lengths yes) → IsBegun input
+  begun : (left' : Option (List ℕ)) (at : ℕ) → Moves (Some input) left' 0 at (CheckedBy limits decided allows aad told told' room lengths yes) → BeginsMessage input
   begun None at m = absurd m.taken
   begun (Some rest) at m =
       let s = m.has.stated in
@@ -148,7 +148,7 @@ module _ {T : Type 0} (limits : Bounds) (allows allows' : Question → Bool) (de
       taken_of limits allows decided aad input told told' room lengths yes law left' at' place (here is start same m) (subst (λ (n : ℕ). IsPlace n input place) start known)
 
   -- memory ran out after the message was read
-  pub begins : {C : List ℕ → Type 0} → left ≡ Some input → at ≡ 0 → allows' ≡ allows → Moves left left' at at' (CopiedBy limits decided allows' aad told told' room lengths C yes) → IsBegun input
+  pub begins : {C : List ℕ → Type 0} → left ≡ Some input → at ≡ 0 → allows' ≡ allows → Moves left left' at at' (CopiedBy limits decided allows' aad told told' room lengths C yes) → BeginsMessage input
   begins is start same m = begun limits allows decided aad input told told' room lengths yes law left' at' (here is start same m)
 
 -- how the call says where all is
@@ -180,7 +180,7 @@ module _ {T : Type 0} (limits : Bounds) (allows : Question → Bool) (decided : 
 
 -- a fault says why the message was not read; an input in memory is never too long
 module _ (limits : Bounds) (input : List ℕ) (fits : length input < 2 ^ 63) (IsSaid : ℕ → Type 0) (number : ℕ) where
-  stopped : (f : StreamFault End) → Tells (λ e. true) (UnstreamedBy limits (length input) input) (IsLongFor 4096 0 input) f → IsSaid (fault_number f)
+  stopped : (f : StreamFault End) → TellsFault (λ e. true) (UnstreamedBy limits (length input) input) (IsLongFor 4096 0 input) f → IsSaid (fault_number f)
       → IsStopped limits input IsSaid
   stopped (fault.Decode (de.Io e)) t u = record { why = damaged end; shown = t refl; said = u }
   stopped (fault.Decode (de.Syntax p)) t u = record { why = damaged (syntax p); shown = t; said = u }
@@ -211,14 +211,14 @@ module _ (limits : Bounds) (input : List ℕ) (fits : length input < 2 ^ 63) (Is
 
   module _ (f : StreamFault End) (left : Option (List ℕ)) (at : ℕ) where
     pub stops : left ≡ Some input → at ≡ 0
-        → HoldsNoMemory f × IfKnown left (λ b. Tells (λ e. true) (UnstreamedBy limits (at + length b) b) (IsLongFor 4096 at b) f)
+        → HoldsNoMemory f × IfKnown left (λ b. TellsFault (λ e. true) (UnstreamedBy limits (at + length b) b) (IsLongFor 4096 at b) f)
         → IfKnown left (λ b. (t : Tree) (front rest : List ℕ) (m : MessageFields) (size : ℕ) → b ≡ front ++ rest → Reads front limits.nesting t
         → IsJudged limits t m → IsSingle m → Stated front size → Answered (λ e. true) (IsLongFor 4096 at b) (Err f))
         → IsSaid (fault_number f) → number ≡ fault_number f → IsStopped limits input IsSaid × IsFoundIfStated limits input number
     stops is start why exactly says numbered =
-        let here = subst (λ (l : Option (List ℕ)). IfKnown l (λ b. Tells (λ e. true) (UnstreamedBy limits (at + length b) b) (IsLongFor 4096 at b) f)) is why.1 in
-        let from = subst (λ (n : ℕ). Tells (λ e. true) (UnstreamedBy limits (n + length input) input) (IsLongFor 4096 n input) f) start here in
-        let tells = subst (λ (n : ℕ). Tells (λ e. true) (UnstreamedBy limits n input) (IsLongFor 4096 0 input) f) (zero-add (length input)) from in
+        let here = subst (λ (l : Option (List ℕ)). IfKnown l (λ b. TellsFault (λ e. true) (UnstreamedBy limits (at + length b) b) (IsLongFor 4096 at b) f)) is why.1 in
+        let from = subst (λ (n : ℕ). TellsFault (λ e. true) (UnstreamedBy limits (n + length input) input) (IsLongFor 4096 n input) f) start here in
+        let tells = subst (λ (n : ℕ). TellsFault (λ e. true) (UnstreamedBy limits n input) (IsLongFor 4096 0 input) f) (zero-add (length input)) from in
         let due = subst (λ (l : Option (List ℕ)). IfKnown l (λ b. (t : Tree) (front rest : List ℕ) (m : MessageFields) (size : ℕ) → b ≡ front ++ rest
         → Reads front limits.nesting t → IsJudged limits t m → IsSingle m → Stated front size → Answered (λ e. true) (IsLongFor 4096 at b) (Err f))) is exactly in (
           stopped f tells says,

@@ -12,7 +12,7 @@ use Rattle.cose_gate_program.specs.Telling.{RanTold}
 use Rattle.cose_gate_program.specs.declared.beginning.NotBegun.{NotBegun as Unbegun}
 use Rattle.cose_gate_program.specs.declared.telling.Notice.{Notice}
 use Rattle.cose_gate_program.specs.declared.telling.Notice.TheVariants.{NotBegun}
-use Rattle.cose_gate_records.specs.Calls.{Answers, Buffers, IsCut, NoMemory, devices}
+use Rattle.cose_gate_records.specs.Calls.{Answers, Buffers, IsCutShort, NoMemory, devices}
 use Rattle.cose_gate_records.specs.Lines.{AreLinesOf}
 use Rattle.cose_gate_records.specs.declared.answer.Answer.{Answer}
 use Rattle.cose_ruled.specs.Blocks.{asks}
@@ -41,7 +41,7 @@ abbrev pub ToldUnder : Bounds → List KeyFields → List ℕ → List ℕ → L
     → Type 0
 ToldUnder limits ks aad input lines count written status =
     TellsBlocks limits ks aad input lines count written status
-    ⊎ (NoMemory written status × IsCut limits (asks ks) aad input lines count)
+    ⊎ (NoMemory written status × IsCutShort limits (asks ks) aad input lines count)
 
 -- the same under the keys of the set that these bytes are; if the run doesn't begin, as that of
 -- `Checks`, nothing was read

@@ -8,7 +8,8 @@ ghost use Rattle.cose_gate_c.specs.KeyParts.{ListsKeys};
 ghost use Rattle.cose_gate_c.specs.RuledAsking.{AsksRuled};
 ghost use Rattle.cose_gate_c.specs.StreamAsking.{StreamAsks};
 ghost use Rattle.cose_gate_c.specs.Streaming.{StreamChecks};
-ghost use Rattle.cose_gate_records.specs.Calls.{Asks, Checks, Passes, PassesDigests, buffers};
+ghost use Rattle.cose_gate_records.specs.Calls.{AsksWithin, Checks, PassesWithin, PassesDigests};
+ghost use Rattle.cose_gate_records.specs.Calls.{buffers};
 
 mod keeping;
 mod key_parts;
@@ -60,7 +61,7 @@ pub extern "C" fn cose_gate_ask(
     layers: usize,
     strict: bool,
 ) -> Answer
-    ensures { Asks nesting layers strict aad.now input.now
+    ensures { AsksWithin nesting layers strict aad.now input.now
         (buffers «questions».old «lines».old) (buffers «questions».new «lines».new) result }
 {
     let choice = Choice {
@@ -85,7 +86,7 @@ pub extern "C" fn cose_gate_pass(
     layers: usize,
     strict: bool,
 ) -> Answer
-    ensures { Passes nesting layers strict accepted.now aad.now input.now
+    ensures { PassesWithin nesting layers strict accepted.now aad.now input.now
         (buffers «out».old «lines».old) (buffers «out».new «lines».new) result }
 {
     let choice = Choice {

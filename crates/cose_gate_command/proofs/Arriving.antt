@@ -12,9 +12,9 @@ use Rattle.ciborium_ll.specs.declared.write.Write.{Ghosts as Writes}
 use Rattle.ciborium_ll.proofs.Appending.{front_then, then_front}
 use Rattle.cose_gate_core.specs.Asked.{folded_over}
 use Rattle.cose_gate_core.specs.Questions.{Question}
-use Rattle.cose_gate_command.specs.Asking.{Hands, IsStatus, Sent, or_status}
+use Rattle.cose_gate_command.specs.Asking.{Hands, IsStatus, SentText, or_status}
 use Rattle.cose_gate_command.specs.Lines.{parts_of, told_as}
-use Rattle.cose_gate_command.specs.Written.{IsWritten, AreWritten, AreWrittenSince, Asked, HasText, HasTexts, Beginning, AreOut, HandedSince, added, parts_in}
+use Rattle.cose_gate_command.specs.Written.{IsQuestionWritten, AreWritten, AreWrittenSince, QuestionLog, HasText, HasTexts, Beginning, AreOut, HandedIfOk, added, parts_in}
 use Rattle.cose_gate_command.specs.declared.options.Form.{Form}
 use Rattle.cose_gate_command.specs.declared.not_run.NotRun.{NotRun}
 use Rattle.cose_gate_command.specs.declared.not_run.NotRun.TheVariants as unrun
@@ -127,7 +127,7 @@ module _ {W F : Type 0} (w : Writes W F) where
     fell_more old new unrun.Output n qs q p = subst (Beginning w old new 1) (with_last qs q) (stopped_more old new 1 (flat_map (told_as form) qs) (told_as form q) p)
     fell_more old new why n qs q p = absurd p
 
-    arrived_then : (begun : List W) (mid new : W) (r : Result (Unit {0}) NotRun) (n n' : ℕ) (qs : List Question) (q : Question) → AreWrittenSince w form begun mid (Ok tt) n qs → IsWritten w mid new r (told_as form q)
+    arrived_then : (begun : List W) (mid new : W) (r : Result (Unit {0}) NotRun) (n n' : ℕ) (qs : List Question) (q : Question) → AreWrittenSince w form begun mid (Ok tt) n qs → IsQuestionWritten w mid new r (told_as form q)
         → n' ≡ (if is_ok r then n + 1 else n) → AreWrittenSince w form begun new r n' (qs ++ q ∷ [])
     arrived_then [] mid new r n n' qs q p t e = tt
     arrived_then (old ∷ more) mid new r n n' qs q p t e = (t.0 ∙ p.0, came_then old mid new r n n' qs q p.1 t.1 e)
@@ -139,7 +139,7 @@ module _ {W F : Type 0} (w : Writes W F) where
     -- one more question, which was written or not, if all before it were written
     pub writes_next : (begun : Log W) (old new : W) (written written' : Result (Unit {0}) NotRun) (sent sent' : Log ℕ) (told told' : Log Parts) (parts : List ℕ × List ℕ)
         → AreOut w form begun old written sent told → OnErr written ((written' ≡ written) × (new ≡ old))
-        → OnOk written ((q : Question) → parts ≡ parts_of form q → IsWritten w old new written' (told_as form q))
+        → OnOk written ((q : Question) → parts ≡ parts_of form q → IsQuestionWritten w old new written' (told_as form q))
         → length sent'.items ≡ (if is_ok written' then length sent.items + 1 else length sent.items)
         → map parts_in told'.items ≡ map parts_in told.items ++ parts ∷ [] → AreOut w form begun new written' sent' told'
     writes_next begun old new (Ok u) written' sent sent' told told' parts before none one count more qs e =
@@ -163,15 +163,15 @@ module _ {W F : Type 0} (w : Writes W F) where
       let c : map (parts_of form) (q ∷ qs) ≡ [] = e ∙ ap (map parts_in) none in cc
 
   -- a judge that was told these
-  abbrev tells : Asked W → Question → Asked W
+  abbrev tells : QuestionLog W → Question → QuestionLog W
   tells s q = record s { told = s.told ++ parts_of s.form q ∷ [] }
 
-  told_over : (s : Asked W) (qs : List Question) → folded_over tells s qs ≡ record s { told = s.told ++ map (parts_of s.form) qs }
+  told_over : (s : QuestionLog W) (qs : List Question) → folded_over tells s qs ≡ record s { told = s.told ++ map (parts_of s.form) qs }
   told_over s [] = ap (λ (z : List _). record s { told = z }) (sym (append-nil s.told))
   told_over s (q ∷ qs) = told_over (tells s q) qs ∙ ap (λ (z : List _). record s { told = z }) (append_assoc s.told (parts_of s.form q ∷ []) (map (parts_of s.form) qs))
 
   -- a judge with these, on a writer of this name
-  abbrev judge : ℕ → List W → Form → List (List ℕ × List ℕ) → Asked W
+  abbrev judge : ℕ → List W → Form → List (List ℕ × List ℕ) → QuestionLog W
   judge name begun form told = record { name = name; was = begun; form = form; told = told }
 
   module _ (name name' : ℕ) (begun begun' : List W) (form form' : Form) (told told' : List (List ℕ × List ℕ)) (qs : List Question)
@@ -180,39 +180,39 @@ module _ {W F : Type 0} (w : Writes W F) where
     all = heard ∙ told_over (judge name begun form told) qs
 
     pub told_name : name' ≡ name
-    told_name = ap (λ (z : Asked W). z.name) all
+    told_name = ap (λ (z : QuestionLog W). z.name) all
 
     pub all_arrived : (first now : W) (b : Log W) (written : Result (Unit {0}) NotRun) (sent : Log ℕ) (t : Log Parts) (f : Form) → begun ≡ first ∷ [] → told ≡ [] → b.items ≡ begun'
         → map parts_in t.items ≡ told' → form ≡ f → AreOut w form' b now written sent t → AreWritten w f first now written (length sent.items) qs
     all_arrived first now b written sent t f starts none same is in_form wrote =
-        let fs : form' ≡ f = ap (λ (z : Asked W). z.form) all ∙ in_form in
-        let bs : b.items ≡ first ∷ [] = same ∙ (ap (λ (z : Asked W). z.was) all ∙ starts) in
+        let fs : form' ≡ f = ap (λ (z : QuestionLog W). z.form) all ∙ in_form in
+        let bs : b.items ≡ first ∷ [] = same ∙ (ap (λ (z : QuestionLog W). z.was) all ∙ starts) in
         let ts : map parts_in t.items ≡ map (parts_of form') qs
-        = is ∙ (ap (λ (z : Asked W). z.told) all ∙ (ap (λ (z : List _). z ++ map (parts_of form) qs) none ∙ ap (λ (z : Form). map (parts_of z) qs) (in_form ∙ sym fs))) in
+        = is ∙ (ap (λ (z : QuestionLog W). z.told) all ∙ (ap (λ (z : List _). z ++ map (parts_of form) qs) none ∙ ap (λ (z : Form). map (parts_of z) qs) (in_form ∙ sym fs))) in
         subst (λ (z : Form). AreWritten w z first now written (length sent.items) qs) fs
         (subst (λ (z : List W). AreWrittenSince w form' z now written (length sent.items) qs) bs (wrote qs (sym ts)))
 
-    pub all_handed : (first now : W) (b : List W) (written : Result (Unit {0}) NotRun) → begun ≡ first ∷ [] → b ≡ begun' → HandedSince w b now written → HandedSince w (first ∷ []) now written
+    pub all_handed : (first now : W) (b : List W) (written : Result (Unit {0}) NotRun) → begun ≡ first ∷ [] → b ≡ begun' → HandedIfOk w b now written → HandedIfOk w (first ∷ []) now written
     all_handed first now b written starts same h =
-        subst (λ (z : List W). HandedSince w z now written) (same ∙ (ap (λ (z : Asked W). z.was) all ∙ starts)) h
+        subst (λ (z : List W). HandedIfOk w z now written) (same ∙ (ap (λ (z : QuestionLog W). z.was) all ∙ starts)) h
 
   -- nothing is held back of no questions, nor after one that was handed on
-  pub none_handed : (now : W) (begun : List W) → begun ≡ now ∷ [] → HandedSince w begun now (Ok tt)
-  none_handed now begun first = subst (λ (z : List W). HandedSince w z now (Ok tt)) (sym first) (λ none. none)
+  pub none_handed : (now : W) (begun : List W) → begun ≡ now ∷ [] → HandedIfOk w begun now (Ok tt)
+  none_handed now begun first = subst (λ (z : List W). HandedIfOk w z now (Ok tt)) (sym first) (λ none. none)
 
-  pub next_handed : (begun : List W) (new : W) (written : Result (Unit {0}) NotRun) → OnOk written (w.held new ≡ []) → HandedSince w begun new written
+  pub next_handed : (begun : List W) (new : W) (written : Result (Unit {0}) NotRun) → OnOk written (w.held new ≡ []) → HandedIfOk w begun new written
   next_handed [] new written handed = tt
   next_handed (old ∷ more) new (Ok u) handed = λ none. handed
   next_handed (old ∷ more) new (Err why) handed = tt
 
-  pub handed_by : (first now : W) (s : ℕ) (written : Result (Unit {0}) NotRun) (result : Result ℕ NotRun) → result ≡ or_status s written → HandedSince w (first ∷ []) now written
+  pub handed_by : (first now : W) (s : ℕ) (written : Result (Unit {0}) NotRun) (result : Result ℕ NotRun) → result ≡ or_status s written → HandedIfOk w (first ∷ []) now written
       → w.held first ≡ [] → OnOk result (w.held now ≡ [])
   handed_by first now s (Ok u) result e h none = subst (λ (z : Result ℕ NotRun). OnOk z (w.held now ≡ [])) (sym e) (h none)
   handed_by first now s (Err why) result e h none = subst (λ (z : Result ℕ NotRun). OnOk z (w.held now ≡ [])) (sym e) tt
 
   -- what one question was, or a beginning of it
   pub torn : (old new : W) (text : List ℕ) → w.handle new ≡ w.handle old → w.failed new ≡ w.failed old + 1
-      → AppendsFront (w.written old) (w.written new) text → IsWritten w old new (Err unrun.Output) text
+      → AppendsFront (w.written old) (w.written new) text → IsQuestionWritten w old new (Err unrun.Output) text
   torn old new text h f p = (h, stopped old new 1 text f p)
 
 -- of a question whose record was made, if it was
@@ -261,9 +261,9 @@ kept (Some a) (Some b) None x q p = absurd q
 kept (Some a) (Some b) (Some c) x q p = q ∙ p
 
 -- a text that was written whole, but not handed on
-pub not_handed_on : {W F T E X G : Type 0} (w : Writes W F) (out mid out' : W) (r : Result T E) (f : Result X G) (text : List ℕ) → is_err r ≡ false → Sent w out mid r text
+pub not_handed_on : {W F T E X G : Type 0} (w : Writes W F) (out mid out' : W) (r : Result T E) (f : Result X G) (text : List ℕ) → is_err r ≡ false → SentText w out mid r text
     → Keeps (w.written mid) (w.written out') → w.failed out' ≡ write_failures f (w.failed mid) → is_err f ≡ true → w.handle out' ≡ w.handle out
-    → IsWritten w out out' (Err unrun.Output) text
+    → IsQuestionWritten w out out' (Err unrun.Output) text
 not_handed_on w out mid out' (Err x) f text e s k n o h = absurd (true≢false e)
 not_handed_on w out mid out' (Ok x) (Ok y) text e s k n o h = absurd (true≢false (sym o))
 not_handed_on w out mid out' (Ok x) (Err y) text e s k n o h =

@@ -22,7 +22,7 @@ use Rattle.cose_gate_program.proofs.Tellings.{folded_then}
 use Rattle.cose_gate_program.proofs.Written.{wrote_then}
 use Rattle.cose_gate_command.specs.Asking.{item_line, item_lines, lines_if}
 use Rattle.cose_gate_command.specs.declared.not_run.NotRun.{NotRun}
-use Rattle.cose_gate_command.specs.Waiting.{Waiting, Held, waits, waits_by, waits_after, last_line}
+use Rattle.cose_gate_command.specs.Waiting.{Waiting, HoldsLast, waits, waits_by, waits_after, last_line}
 
 -- items leave the writer and the last line as they are
 over_items : {W : Type 0} (s : Waiting W) (es : List Entry)
@@ -90,7 +90,7 @@ so_if so (Err why) ns e = ap (λ (z : Bool). lines_so z ns) e
 
 -- the last line was written, or not
 pub last_written : {W F : Type 0} (w : Writes W F) (first mid err' : W) (so : Bool) (result : Result ℕ NotRun) (last : Option Notice) (ns : List Notice)
-    → so ≡ is_ok result → Held w first mid last ns → Wrote w mid err' (last_line so last) → Wrote w first err' (lines_if result ns)
+    → so ≡ is_ok result → HoldsLast w first mid last ns → Wrote w mid err' (last_line so last) → Wrote w first err' (lines_if result ns)
 last_written w first mid err' so result last ns same h one =
     let said : Wrote w mid err' (last_line so (Some h.1)) = subst (λ (z : Option Notice). Wrote w mid err' (last_line so z)) h.3 one in
     subst (λ (z : List ℕ). Wrote w first err' z) (said_so so h.0 h.1 ns h.2 h.4 ∙ so_if so result ns same)
@@ -100,7 +100,7 @@ last_written w first mid err' so result last ns same h one =
 pub held_by : {W F : Type 0} (w : Writes W F) (allows : Question → Bool) (aad : List ℕ) (run : GateRun InputFault) (flushed : Bool) (s s' : Waiting W) (first now : W) (last : Option Notice)
     → s' ≡ folded_over waits_after s (told_in allows aad run flushed)
     → s.begun ≡ first ∷ [] → s.said ≡ [] → WroteSince w s'.begun now (lines_of s'.said) → last ≡ s'.last
-    → Held w first now last (told_in allows aad run flushed)
+    → HoldsLast w first now last (told_in allows aad run flushed)
 held_by w allows aad run flushed s s' first now last told begun none spoke is =
     let es = entries_of run.done in
     let items : List Notice = map (λ e. Item e) es in
@@ -117,7 +117,7 @@ pub waited : {limits : Bounds} {allows : Question → Bool} {aad : List ℕ} {ol
     (w : Writes W F) (s s' : Waiting W) (first now : W) (last : Option Notice)
     → RanTold limits allows aad old new status A (λ ns. s' ≡ folded_over waits_after s ns)
     → s.begun ≡ first ∷ [] → s.said ≡ [] → WroteSince w s'.begun now (lines_of s'.said) → last ≡ s'.last
-    → RanTold limits allows aad old new status A (Held w first now last)
+    → RanTold limits allows aad old new status A (HoldsLast w first now last)
 waited {allows = allows} {aad = aad} w s s' first now last r begun none spoke is = record {
   run = r.run;
   flushed = r.flushed;
@@ -130,7 +130,7 @@ waited {allows = allows} {aad = aad} w s s' first now last r begun none spoke is
 -- after its last line nothing is held back
 pub held_lines : {limits : Bounds} {allows : Question → Bool} {aad : List ℕ} {old new : Devices} {status : ℕ} {A : List Question → Type 0} {W F : Type 0}
     (w : Writes W F) (first mid err' : W) (so : Bool) (last : Option Notice)
-    → Wrote w mid err' (last_line so last) → HandedOn w mid err' → RanTold limits allows aad old new status A (Held w first mid last) → HandedOn w first err'
+    → Wrote w mid err' (last_line so last) → HandedOn w mid err' → RanTold limits allows aad old new status A (HoldsLast w first mid last) → HandedOn w first err'
 held_lines w first mid err' so last wrote handed ran = handed_after w first mid err' ran.told.5.1.0 wrote.1.0 handed
 
 -- writer and place are the same

@@ -18,7 +18,7 @@ use Rattle.cose_gate_program.specs.declared.telling.Notice.{Notice}
 use Rattle.cose_gate_program.specs.declared.telling.Notice.TheVariants.{Item, NotBegun}
 use Rattle.cose_gate_program.proofs.Written.{wrote_then}
 use Rattle.cose_gate_command.specs.KeyFiles.{reason_line}
-use Rattle.cose_gate_command.specs.RunLines.{Adds, Says, SaysSince, line_with, shown}
+use Rattle.cose_gate_command.specs.RunLines.{AddsReasons, SaysAll, SaysSince, line_with, shown}
 use Rattle.cose_gate_command.specs.RunLines.Among.{nothing, line, more}
 
 plain_last : (fault : List ℕ) (keys : Option (List ℕ)) (quiet : Bool) (r : Result Count (GateFault InputFault)) (flushed : Bool)
@@ -35,7 +35,7 @@ plain_items fault keys quiet (e ∷ es) last same = ap (λ (z : List ℕ). shown
 -- of a run nothing is said of KEYS
 pub plain_run : {limits : Bounds} {allows : Question → Bool} {aad : List ℕ} {old new : Devices} {status : ℕ} {A : List Question → Type 0} {W F : Type 0}
     (w : Writes W F) (err err' : W) (verbose quiet : Bool) (fault : List ℕ) (keys : Option (List ℕ)) → RanTold limits allows aad old new status A (λ ns. SaysSince w verbose quiet (err ∷ []) err' ns)
-    → RanTold limits allows aad old new status A (Says w verbose quiet fault keys err err')
+    → RanTold limits allows aad old new status A (SaysAll w verbose quiet fault keys err err')
 plain_run w err err' true quiet fault keys r = record {
   run = r.run;
   flushed = r.flushed;
@@ -55,14 +55,14 @@ plain_run w err err' false quiet fault keys r = record {
 
 -- one that doesn't begin
 pub with_reason : {W F : Type 0} (w : Writes W F) (old mid new : W) (verbose quiet : Bool) (fault : List ℕ) (keys : Option (List ℕ)) (why : Unbegun) → verbose ≡ false
-    → Wrote w old mid (line_of (NotBegun why)) → Wrote w mid new (reason_line fault keys why) → Says w verbose quiet fault keys old new (NotBegun why ∷ [])
+    → Wrote w old mid (line_of (NotBegun why)) → Wrote w mid new (reason_line fault keys why) → SaysAll w verbose quiet fault keys old new (NotBegun why ∷ [])
 with_reason w old mid new true quiet fault keys why is first then = absurd (cc)
 with_reason w old mid new false quiet fault keys why is first then =
     subst (λ (z : List ℕ). Wrote w old new z) (sym (append-nil (line_of (NotBegun why) ++ reason_line fault keys why)))
     (wrote_then w old mid new (line_of (NotBegun why)) (reason_line fault keys why) first then)
 
 pub with_more : {W F : Type 0} (w : Writes W F) (old mid new : W) (verbose quiet : Bool) (fault : List ℕ) (keys : Option (List ℕ)) (why : Unbegun) → verbose ≡ true
-    → Wrote w old mid (line_of (NotBegun why)) → Adds w true mid new → Says w verbose quiet fault keys old new (NotBegun why ∷ [])
+    → Wrote w old mid (line_of (NotBegun why)) → AddsReasons w true mid new → SaysAll w verbose quiet fault keys old new (NotBegun why ∷ [])
 with_more w old mid new false quiet fault keys why is first adds = absurd (cc)
 with_more w old mid new true quiet fault keys why is first adds =
     ∣ (line_of (NotBegun why) ++ adds.0, more (line nothing (NotBegun why)) adds.1, wrote_then w old mid new (line_of (NotBegun why)) adds.0 first adds.2) ∣₁

@@ -2,7 +2,7 @@
 use Rattle.std.proofs.Common.{◌≡◌, ℕ, List, Option, None, Some, false, refl, sym, subst, inl, inr}
 use Rattle.cose_gate_command.specs.Accepted.{HasNoLines}
 use Rattle.cose_gate_command.specs.Arguments.{AskArguments, PassArguments}
-use Rattle.cose_gate_command.specs.Asking.{AsksNot, IsNoAad}
+use Rattle.cose_gate_command.specs.Asking.{AsksNot, IsNoHexAad}
 use Rattle.cose_gate_command.specs.Passing.{PassesNot, AcceptsNot}
 use Rattle.cose_gate_command.specs.declared.not_run.NotRun.{NotRun}
 use Rattle.cose_gate_command.specs.declared.not_run.NotRun.TheVariants as unrun
@@ -10,7 +10,7 @@ use Rattle.cose_gate_command.specs.declared.not_run.NotRun.TheVariants as unrun
 pub asks_usage : (a : Option AskArguments) → a ≡ None → AsksNot a unrun.Usage
 asks_usage a e = subst (λ (z : Option AskArguments). AsksNot z unrun.Usage) (sym e) refl
 
-pub asks_not : (a : Option AskArguments) (b : AskArguments) (why : NotRun) → a ≡ Some b → b.keys ≡ None → IsNoAad b.aad why → AsksNot a why
+pub asks_not : (a : Option AskArguments) (b : AskArguments) (why : NotRun) → a ≡ Some b → b.keys ≡ None → IsNoHexAad b.aad why → AsksNot a why
 asks_not a b why e k h = subst (λ (z : Option AskArguments). AsksNot z why) (sym e) (k, h)
 
 pub passes_usage : (a : Option PassArguments) (file : Option (List ℕ)) → a ≡ None → PassesNot a file unrun.Usage
@@ -25,7 +25,7 @@ both : (b : PassArguments) (bytes : List ℕ) (a : Option PassArguments) (file :
 both b bytes a file why e f h =
     subst (λ (z : Option PassArguments). PassesNot z file why) (sym e) (subst (λ (z : Option (List ℕ)). PassesNot (Some b) z why) (sym f) h)
 
-no_aad : (b : PassArguments) (bytes : List ℕ) (why : NotRun) → IsNoAad b.aad why → PassesNot (Some b) (Some bytes) why
+no_aad : (b : PassArguments) (bytes : List ℕ) (why : NotRun) → IsNoHexAad b.aad why → PassesNot (Some b) (Some bytes) why
 no_aad b bytes unrun.NotHex h = h
 no_aad b bytes unrun.Memory h = tt
 no_aad b bytes unrun.Usage h = absurd h
@@ -56,7 +56,7 @@ no_records b bytes (unrun.LineNotHex n) r h = (r, h)
 no_records b bytes (unrun.LineNoRecord n) r h = (r, h)
 no_records b bytes unrun.Output r h = (r, h)
 
-pub passes_no_aad : (b : PassArguments) (bytes : List ℕ) (a : Option PassArguments) (file : Option (List ℕ)) (why : NotRun) → a ≡ Some b → file ≡ Some bytes → IsNoAad b.aad why → PassesNot a file why
+pub passes_no_aad : (b : PassArguments) (bytes : List ℕ) (a : Option PassArguments) (file : Option (List ℕ)) (why : NotRun) → a ≡ Some b → file ≡ Some bytes → IsNoHexAad b.aad why → PassesNot a file why
 passes_no_aad b bytes a file why e f h = both b bytes a file why e f (no_aad b bytes why h)
 
 pub passes_no_records : (b : PassArguments) (bytes : List ℕ) (a : Option PassArguments) (file : Option (List ℕ)) (why : NotRun) → a ≡ Some b → file ≡ Some bytes → b.digests ≡ false → AcceptsNot bytes why

@@ -19,7 +19,7 @@ use Rattle.cose_gate_program.specs.declared.telling.Notice.TheVariants as notice
 use Rattle.cose_gate_program.proofs.Handed.{handed_after, it_is_last, over_by_last}
 use Rattle.cose_gate_program.proofs.Written.{wrote_then}
 use Rattle.cose_gate_command.specs.KeyFiles.{indented}
-use Rattle.cose_gate_command.specs.RunLines.{Adds, AreIndented, LineLog, SaysSince, StaysHandedOn, is_line, is_silent, shown}
+use Rattle.cose_gate_command.specs.RunLines.{AddsReasons, AreIndented, SaidLog, SaysSince, StaysHandedOn, is_line, is_silent, shown}
 use Rattle.cose_gate_command.specs.RunLines.AreIndented.{none, one_more}
 use Rattle.cose_gate_command.specs.RunLines.Among.{nothing, line, more}
 
@@ -35,13 +35,13 @@ both_lines [] ys p q = q
 both_lines (x ∷ xs) ys p q = grind (arith, p, both_lines xs ys)
 
 -- nothing more
-pub adds_nothing : {W F : Type 0} (w : Writes W F) (verbose : Bool) (now : W) → Adds w verbose now now
+pub adds_nothing : {W F : Type 0} (w : Writes W F) (verbose : Bool) (now : W) → AddsReasons w verbose now now
 adds_nothing w true now = ([], none, same w now)
 adds_nothing w false now = same w now
 
 -- a line of two texts of one line each
 pub adds_line : {W F : Type 0} (w : Writes W F) (old new : W) (xs ys : List ℕ) → is_line xs ≡ true → is_line ys ≡ true
-    → Wrote w old new (indented (xs ++ ys)) → Adds w true old new
+    → Wrote w old new (indented (xs ++ ys)) → AddsReasons w true old new
 adds_line w old new xs ys p q wrote = (indented (xs ++ ys), one_more none (xs ++ ys) (both_lines xs ys p q), wrote)
 
 indented_both : {xs ys : List ℕ} → AreIndented xs → AreIndented ys → AreIndented (xs ++ ys)
@@ -50,11 +50,11 @@ indented_both {xs} p (one_more {text} are last is) =
     subst AreIndented (append_assoc xs text (indented last)) (one_more (indented_both p are) last is)
 
 -- one after another
-pub adds_both : {W F : Type 0} (w : Writes W F) (old mid new : W) → Adds w true old mid → Adds w true mid new → Adds w true old new
+pub adds_both : {W F : Type 0} (w : Writes W F) (old mid new : W) → AddsReasons w true old mid → AddsReasons w true mid new → AddsReasons w true old new
 adds_both w old mid new p q = (p.0 ++ q.0, indented_both p.1 q.1, wrote_then w old mid new p.0 q.0 p.2 q.2)
 
 -- and a flush
-pub adds_flushed : {W F : Type 0} (w : Writes W F) (old mid new : W) → Adds w true old mid → Wrote w mid new [] → Adds w true old new
+pub adds_flushed : {W F : Type 0} (w : Writes W F) (old mid new : W) → AddsReasons w true old mid → Wrote w mid new [] → AddsReasons w true old new
 adds_flushed w old mid new p q = adds_both w old mid new p ([], none, q)
 
 since_then : {W F : Type 0} (w : Writes W F) (was : List W) (old new : W) (x y : List ℕ)
@@ -73,7 +73,7 @@ says_line w false quiet was old new told n says wrote =
 
 -- lines more, if it is verbose
 pub says_more : {W F : Type 0} (w : Writes W F) (verbose quiet : Bool) (was : List W) (old new : W) (told : List Notice)
-    → SaysSince w verbose quiet was old told → Adds w verbose old new → SaysSince w verbose quiet was new told
+    → SaysSince w verbose quiet was old told → AddsReasons w verbose old new → SaysSince w verbose quiet was new told
 says_more w true quiet was old new told says adds =
     ∥∥₁_map says (λ s. (s.0 ++ adds.0, more s.1 adds.1, since_then w was old new s.0 adds.0 s.2 adds.2))
 says_more w false quiet was old new told says adds =
@@ -96,31 +96,31 @@ says_nothing {W} w verbose quiet was now told first empty =
     start true = ∣ ([], nothing, same w now) ∣₁
     start false = same w now
 
-abbrev says : {W : Type 0} → LineLog W → Notice → LineLog W
+abbrev says : {W : Type 0} → SaidLog W → Notice → SaidLog W
 says s notice = record s { told = s.told ++ notice ∷ [] }
 
-said_over : {W : Type 0} (s : LineLog W) (ns : List Notice) → folded_over says s ns ≡ record s { told = s.told ++ ns }
+said_over : {W : Type 0} (s : SaidLog W) (ns : List Notice) → folded_over says s ns ≡ record s { told = s.told ++ ns }
 said_over s [] = ap (λ (z : List Notice). record s { told = z }) (sym (append-nil s.told))
 said_over s (n ∷ ns) = said_over (says s n) ns ∙ ap (λ (z : List Notice). record s { told = z }) (append_assoc s.told (n ∷ []) ns)
 
 -- all that was said on a writer that was `first`
-pub said_all : {W F : Type 0} (w : Writes W F) (s s' : LineLog W) (ns : List Notice) (first now : W) (verbose quiet : Bool)
+pub said_all : {W F : Type 0} (w : Writes W F) (s s' : SaidLog W) (ns : List Notice) (first now : W) (verbose quiet : Bool)
     → s' ≡ folded_over says s ns → s.was ≡ first ∷ [] → s.told ≡ [] → s.verbose ≡ verbose → s.quiet ≡ quiet
     → SaysSince w s'.verbose s'.quiet s'.was now s'.told → SaysSince w verbose quiet (first ∷ []) now ns
 said_all {W} w s s' ns first now verbose quiet e begun empty loud still is =
     let end : s' ≡ record s { told = s.told ++ ns } = e ∙ said_over s ns in
-    let v : s'.verbose ≡ verbose = ap (λ (z : LineLog W). z.verbose) end ∙ loud in
-    let q : s'.quiet ≡ quiet = ap (λ (z : LineLog W). z.quiet) end ∙ still in
-    let b : s'.was ≡ first ∷ [] = ap (λ (z : LineLog W). z.was) end ∙ begun in
-    let t : s'.told ≡ ns = ap (λ (z : LineLog W). z.told) end ∙ ap (λ (z : List Notice). z ++ ns) empty in
+    let v : s'.verbose ≡ verbose = ap (λ (z : SaidLog W). z.verbose) end ∙ loud in
+    let q : s'.quiet ≡ quiet = ap (λ (z : SaidLog W). z.quiet) end ∙ still in
+    let b : s'.was ≡ first ∷ [] = ap (λ (z : SaidLog W). z.was) end ∙ begun in
+    let t : s'.told ≡ ns = ap (λ (z : SaidLog W). z.told) end ∙ ap (λ (z : List Notice). z ++ ns) empty in
     subst (λ (z : Bool). SaysSince w z quiet (first ∷ []) now ns) v
     (subst (λ (z : Bool). SaysSince w s'.verbose z (first ∷ []) now ns) q
     (subst (λ (z : List W). SaysSince w s'.verbose s'.quiet z now ns) b
     (subst (λ (z : List Notice). SaysSince w s'.verbose s'.quiet s'.was now z) t is)))
 
 -- they are on the same writer
-pub same_writer : {W : Type 0} (s s' : LineLog W) (ns : List Notice) → s' ≡ folded_over says s ns → s'.name ≡ s.name
-same_writer s s' ns e = ap (λ (z : LineLog _). z.name) (e ∙ said_over s ns)
+pub same_writer : {W : Type 0} (s s' : SaidLog W) (ns : List Notice) → s' ≡ folded_over says s ns → s'.name ≡ s.name
+same_writer s s' ns e = ap (λ (z : SaidLog _). z.name) (e ∙ said_over s ns)
 
 -- a notice without a line is of an item
 pub not_silent : (quiet : Bool) (n : Notice) → is_silent quiet n ≡ true → is_last n ≡ true → ⊥
@@ -135,7 +135,7 @@ fails_since : {W F : Type 0} (w : Writes W F) (verbose quiet : Bool) (first : W)
 fails_since w true quiet first later now told so = ∥∥₁_rec le_prop (λ s. s.2.1.0) so
 fails_since w false quiet first later now told so = so.1.0
 
-fails_more : {W F : Type 0} (w : Writes W F) (verbose : Bool) (old new : W) → Adds w verbose old new → w.failed old ≤ w.failed new
+fails_more : {W F : Type 0} (w : Writes W F) (verbose : Bool) (old new : W) → AddsReasons w verbose old new → w.failed old ≤ w.failed new
 fails_more w true old new adds = adds.2.1.0
 fails_more w false old new adds = adds.1.0
 
@@ -144,7 +144,7 @@ same_both a b c d p q r e = (omega (arith, p, q, r, e), omega (arith, p, q, r, e
 
 -- what is held back after one more notice, and after a flush
 pub handed_line : {W F : Type 0} (w : Writes W F) (verbose quiet : Bool) (was : List W) (old mid new : W) (told : List Notice) (n : Notice)
-    → SaysSince w verbose quiet was old told → Wrote w old mid (shown quiet n) → (is_last n ≡ true → HandedOn w old mid) → Adds w verbose mid new → StaysHandedOn w mid new
+    → SaysSince w verbose quiet was old told → Wrote w old mid (shown quiet n) → (is_last n ≡ true → HandedOn w old mid) → AddsReasons w verbose mid new → StaysHandedOn w mid new
     → HandedSince w was new (told ++ n ∷ [])
 handed_line w verbose quiet [] old mid new told n so wrote last adds stays = tt
 handed_line w verbose quiet (first ∷ later) old mid new told n so wrote last adds stays = λ over steady.
@@ -157,19 +157,19 @@ handed_rest w verbose quiet [] old new told so wrote handed = tt
 handed_rest w verbose quiet (first ∷ later) old new told so wrote handed = λ over. handed_after w first old new (fails_since w verbose quiet first later old told so) wrote.1.0 handed
 
 -- a run's lines are on one writer
-pub ran_on : {limits : Bounds} {allows : Question → Bool} {aad : List ℕ} {old new : Devices} {status : ℕ} {A : List Question → Type 0} {W : Type 0} (s s' : LineLog W)
+pub ran_on : {limits : Bounds} {allows : Question → Bool} {aad : List ℕ} {old new : Devices} {status : ℕ} {A : List Question → Type 0} {W : Type 0} (s s' : SaidLog W)
     → RanTold limits allows aad old new status A (λ ns. s' ≡ folded_over says s ns) → s'.name ≡ s.name
 ran_on {allows = allows} {aad = aad} s s' r = same_writer s s' (items_of r.run.done ++ last_of (result_of allows aad r.run) r.flushed ∷ []) r.told
 
 -- and at the end of a run
-pub handed_said : {limits : Bounds} {allows : Question → Bool} {aad : List ℕ} {old new : Devices} {status : ℕ} {A : List Question → Type 0} {W F : Type 0} (w : Writes W F) (s s' : LineLog W) (first now : W)
+pub handed_said : {limits : Bounds} {allows : Question → Bool} {aad : List ℕ} {old new : Devices} {status : ℕ} {A : List Question → Type 0} {W F : Type 0} (w : Writes W F) (s s' : SaidLog W) (first now : W)
     → RanTold limits allows aad old new status A (λ ns. s' ≡ folded_over says s ns) → s.was ≡ first ∷ [] → s.told ≡ [] → HandedSince w s'.was now s'.told → HandedOn w first now
 handed_said {allows = allows} {aad = aad} {W = W} w s s' first now r begun empty handed =
     let last = last_of (result_of allows aad r.run) r.flushed in
     let ns : List Notice = items_of r.run.done in
     let end : s' ≡ record s { told = s.told ++ (ns ++ last ∷ []) } = r.told ∙ said_over s (ns ++ last ∷ []) in
-    let b : s'.was ≡ first ∷ [] = ap (λ (z : LineLog W). z.was) end ∙ begun in
-    let t : s'.told ≡ ns ++ last ∷ [] = ap (λ (z : LineLog W). z.told) end ∙ ap (λ (z : List Notice). z ++ (ns ++ last ∷ [])) empty in
+    let b : s'.was ≡ first ∷ [] = ap (λ (z : SaidLog W). z.was) end ∙ begun in
+    let t : s'.told ≡ ns ++ last ∷ [] = ap (λ (z : SaidLog W). z.told) end ∙ ap (λ (z : List Notice). z ++ (ns ++ last ∷ [])) empty in
     let all : HandedSince w (first ∷ []) now (ns ++ last ∷ [])
     = subst (λ (z : List W). HandedSince w z now (ns ++ last ∷ [])) b (subst (λ (z : List Notice). HandedSince w s'.was now z) t handed) in
     all (over_by_last ns last ∙ it_is_last (result_of allows aad r.run) r.flushed)

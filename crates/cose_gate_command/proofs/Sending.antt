@@ -9,7 +9,7 @@ use Rattle.std.proofs.lemmas.List.Concat.{flat_map-append}
 use Rattle.ciborium_ll.specs.Device.{AppendsFront, write_failures}
 use Rattle.ciborium_ll.specs.declared.write.Write.{Ghosts as Writes}
 use Rattle.ciborium_ll.proofs.Appending.{front_then, then_front}
-use Rattle.cose_gate_command.specs.Asking.{Sent}
+use Rattle.cose_gate_command.specs.Asking.{SentText}
 
 -- all of a text was written, or a beginning of it, and then the writer failed
 abbrev pub Wrote : {W F : Type 0} → Writes W F → W → W → List ℕ → Type 0
@@ -30,11 +30,11 @@ up_to {X} f xs i d h = flat_map_more f [] (take i xs) (get_or xs i d) ∙ ap (λ
 module _ {W F : Type 0} (w : Writes W F) where
   -- what one call wrote
   pub sent_by : {T E : Type 0} (out out' : W) (r : Result T E) (text : List ℕ) → OnOk r (Appends (w.written out) (w.written out') text)
-      → OnErr r (AppendsFront (w.written out) (w.written out') text) → w.failed out' ≡ write_failures r (w.failed out) → Sent w out out' r text
+      → OnErr r (AppendsFront (w.written out) (w.written out') text) → w.failed out' ≡ write_failures r (w.failed out) → SentText w out out' r text
   sent_by out out' (Ok x) text ok err f = (f, ok)
   sent_by out out' (Err e) text ok err f = (f, err)
 
-  pub sent_torn : {T E : Type 0} (out out' : W) (r : Result T E) (text : List ℕ) → IsErr r → Torn w out out' text → Sent w out out' r text
+  pub sent_torn : {T E : Type 0} (out out' : W) (r : Result T E) (text : List ℕ) → IsErr r → Torn w out out' text → SentText w out out' r text
   sent_torn out out' (Ok x) text e p = absurd (true≢false (sym e))
   sent_torn out out' (Err x) text e p = p
 
@@ -47,7 +47,7 @@ module _ {W F : Type 0} (w : Writes W F) where
   torn_after out mid out' first then p q =
       (q.0 ∙ ap (λ (n : ℕ). n + 1) p.0, then_front (w.written out) (w.written mid) (w.written out') first then p.1 q.1)
 
-  pub sent_after : {T E : Type 0} (out mid out' : W) (r : Result T E) (first then : List ℕ) → Wrote w out mid first → Sent w mid out' r then → Sent w out out' r (first ++ then)
+  pub sent_after : {T E : Type 0} (out mid out' : W) (r : Result T E) (first then : List ℕ) → Wrote w out mid first → SentText w mid out' r then → SentText w out out' r (first ++ then)
   sent_after out mid out' (Ok x) first then p q = wrote_after out mid out' first then p q
   sent_after out mid out' (Err e) first then p q = torn_after out mid out' first then p q
 

@@ -22,7 +22,7 @@ use Rattle.cose_gate_program.specs.declared.telling.Notice.TheVariants as notice
 use Rattle.cose_gate_command.specs.Arguments.{AskArguments}
 use Rattle.cose_gate_command.specs.Ends.{bounds_by}
 use Rattle.cose_gate_command.specs.Lines.{form_of, told_as}
-use Rattle.cose_gate_command.specs.RunLines.{Says}
+use Rattle.cose_gate_command.specs.RunLines.{SaysAll}
 use Rattle.cose_gate_command.specs.declared.not_run.NotRun.{NotRun}
 use Rattle.cose_gate_command.specs.declared.not_run.NotRun.TheVariants as unrun
 use Rattle.cose_gate_command.specs.declared.options.Form.{Form}
@@ -37,16 +37,16 @@ status_of unrun.Output = 4
 status_of e = 3
 
 -- AADHEX is no hex, or it is out of memory
-abbrev pub IsNoAad : Option (List ℕ) → NotRun → Type 0
-IsNoAad aad unrun.NotHex = aad_of aad ≡ None
-IsNoAad aad unrun.Memory = Unit {0}
-IsNoAad aad why = ⊥
+abbrev pub IsNoHexAad : Option (List ℕ) → NotRun → Type 0
+IsNoHexAad aad unrun.NotHex = aad_of aad ≡ None
+IsNoHexAad aad unrun.Memory = Unit {0}
+IsNoHexAad aad why = ⊥
 
 -- why it isn't run with these arguments: there are none, or AADHEX is no hex, or it is out of
 -- memory; with --keys other lines say so
 abbrev pub AsksNot : Option AskArguments → NotRun → Type 0
 AsksNot None why = why ≡ unrun.Usage
-AsksNot (Some a) why = (a.keys ≡ None) × IsNoAad a.aad why
+AsksNot (Some a) why = (a.keys ≡ None) × IsNoHexAad a.aad why
 
 -- a reader alone: its output goes nowhere
 abbrev pub reading : {R E : Type 0} → Reads R E → R → Devices
@@ -66,27 +66,27 @@ abbrev pub item_lines : List Notice → List ℕ
 item_lines notices = flat_map item_line notices
 
 -- a text was written, or a beginning of it and then the writer failed
-abbrev pub Sent : {T E W F : Type 0} → Writes W F → W → W → Result T E → List ℕ → Type 0
-Sent w out out' (Ok x) text =
+abbrev pub SentText : {T E W F : Type 0} → Writes W F → W → W → Result T E → List ℕ → Type 0
+SentText w out out' (Ok x) text =
     (w.failed out' ≡ w.failed out) × Appends (w.written out) (w.written out') text
-Sent w out out' (Err e) text = (w.failed out' ≡ w.failed out + 1)
+SentText w out out' (Err e) text = (w.failed out' ≡ w.failed out + 1)
     × AppendsFront (w.written out) (w.written out') text
 
 -- out of memory the texts of so many of these questions were written, the first ones; if the output
 -- failed, a beginning of the texts of all
-abbrev pub Fails : {W F : Type 0} → Writes W F → Form → W → W → NotRun → List Question → Type 0
-Fails w form out out' unrun.Memory asked = (n : ℕ) × (w.failed out' ≡ w.failed out)
+abbrev pub FailsAsking : {W F : Type 0} → Writes W F → Form → W → W → NotRun → List Question → Type 0
+FailsAsking w form out out' unrun.Memory asked = (n : ℕ) × (w.failed out' ≡ w.failed out)
     × Appends (w.written out) (w.written out') (flat_map (told_as form) (take n asked))
-Fails w form out out' unrun.Output asked =
-    Sent {T = ℕ} {E = NotRun} w out out' (Err unrun.Output) (flat_map (told_as form) asked)
-Fails w form out out' why asked = ⊥
+FailsAsking w form out out' unrun.Output asked =
+    SentText {T = ℕ} {E = NotRun} w out out' (Err unrun.Output) (flat_map (told_as form) asked)
+FailsAsking w form out out' why asked = ⊥
 
 -- the texts of these questions were written, or it fails so
 abbrev pub Hands : {T W F : Type 0} → Writes W F → Form → W → W → Result T NotRun → List Question
     → Type 0
 Hands w form out out' (Ok s) asked =
-    Sent {E = NotRun} w out out' (Ok s) (flat_map (told_as form) asked)
-Hands w form out out' (Err why) asked = Fails w form out out' why asked
+    SentText {E = NotRun} w out out' (Ok s) (flat_map (told_as form) asked)
+Hands w form out out' (Err why) asked = FailsAsking w form out out' why asked
 
 -- the status of the run, unless its output wasn't written
 abbrev pub or_status : ℕ → Result (Unit {0}) NotRun → Result ℕ NotRun
@@ -105,9 +105,9 @@ IsStatus (Err why) status = Unit {0}
 
 -- the gate ran over the input, with a judge that says yes to each question: the records of the
 -- questions that were asked, or their lines, are handed out; the last line is written if all were
-abbrev pub Asked : {W F E G : Type 0} (w : Writes W F) (e : Writes E G) → Bounds → Form → List ℕ
+abbrev pub RanAsks : {W F E G : Type 0} (w : Writes W F) (e : Writes E G) → Bounds → Form → List ℕ
     → Devices → Devices → W → W → E → E → Result ℕ NotRun → Type 0
-Asked w e limits form aad old new out out' err err' result = (status : ℕ)
+RanAsks w e limits form aad old new out out' err err' result = (status : ℕ)
     × IsStatus result status × RanTold limits (λ _. true) aad old new status
     (λ asked. Hands w form out out' result asked)
     (λ notices. Wrote e err err' (lines_if result notices))
@@ -125,7 +125,7 @@ pub data AsksByRules {W F E G : Type 0} (w : Writes W F) (e : Writes E G) (limit
     (old new : Devices)
     (out out' : W) (err err' : E) (status : ℕ) : Type 0 where
   not_begun : (why : Unbegun) → BeginsNot keys aad why → status ≡ begin.status_of why → new ≡ old
-      → out' ≡ out → Says e false false fault keys err err' (notice.NotBegun why ∷ [])
+      → out' ≡ out → SaysAll e false false fault keys err err' (notice.NotBegun why ∷ [])
       → AsksByRules w e limits token keys fault aad old new out out' err err' status
   after_run : (b d : List ℕ) → keys ≡ Some b → aad ≡ Some d
       → (ks : List KeyFields) → HasItem HasKeySet b ks
@@ -135,22 +135,22 @@ pub data AsksByRules {W F E G : Type 0} (w : Writes W F) (e : Writes E G) (limit
 
 -- how cose-ask ends with these arguments, and what KEYS holds if they name it: that, with --keys or
 -- without; or it isn't run, and nothing was read, written or told
-pub data Asks {W F E G : Type 0} (w : Writes W F) (e : Writes E G) (a : Option AskArguments)
+pub data AskEnds {W F E G : Type 0} (w : Writes W F) (e : Writes E G) (a : Option AskArguments)
     (keys : Option (List ℕ)) (fault : List ℕ) (old new : Devices) (out out' : W) (err err' : E)
     (result : Result ℕ NotRun) : Type 0 where
   not_run : (why : NotRun) → AsksNot a why → result ≡ Err why → new ≡ old → out' ≡ out
-      → err' ≡ err → Asks w e a keys fault old new out out' err err' result
+      → err' ≡ err → AskEnds w e a keys fault old new out out' err err' result
   after_run : (b : AskArguments) → a ≡ Some b → b.keys ≡ None → (d : List ℕ)
       → aad_of b.aad ≡ Some d
-      → Asked w e (bounds_by b.strict) (form_of b.lines b.fields) d old new out out' err err' result
-      → Asks w e a keys fault old new out out' err err' result
+      → RanAsks w e (bounds_by b.strict) (form_of b.lines b.fields) d old new out out' err err' result
+      → AskEnds w e a keys fault old new out out' err err' result
   by_rules : (b : AskArguments) → a ≡ Some b → (name : List ℕ) → b.keys ≡ Some name
       → (status : ℕ) → result ≡ Ok status
       → AsksByRules w e (bounds_by b.strict) b.token keys fault (aad_of b.aad) old new out out'
       err err' status
-      → Asks w e a keys fault old new out out' err err' result
+      → AskEnds w e a keys fault old new out out' err err' result
 
 -- a run with these arguments went through its input: with --keys that of status 0 or 1
-abbrev pub WentThrough : Option AskArguments → ℕ → Type 0
-WentThrough None status = Unit {0}
-WentThrough (Some a) status = MatchOption a.keys (Unit {0}) (λ _. status < 2)
+abbrev pub RanThrough : Option AskArguments → ℕ → Type 0
+RanThrough None status = Unit {0}
+RanThrough (Some a) status = MatchOption a.keys (Unit {0}) (λ _. status < 2)

@@ -36,15 +36,15 @@ PassesNot (Some a) (Some file) why = (a.digests ≡ false) × AcceptsNot file wh
 
 -- if the bytes are records, one after another, the gate ran with the judge that says yes to the
 -- questions whose records they are; else nothing was read, written or told
-abbrev pub Passed : {E G : Type 0} (e : Writes E G) → Bounds → List ℕ → List ℕ → Devices → Devices
+abbrev pub RanPassing : {E G : Type 0} (e : Writes E G) → Bounds → List ℕ → List ℕ → Devices → Devices
     → E → E → Result ℕ NotRun → Type 0
-Passed e limits records aad old new err err' (Ok status) = (keys : List (List ℕ))
+RanPassing e limits records aad old new err err' (Ok status) = (keys : List (List ℕ))
     × (records ≡ flat_map framed keys)
     × RanTold limits (is_among keys) aad old new status (λ _. Unit {0}) (writes e err err')
-Passed e limits records aad old new err err' (Err unrun.NoRecords) =
+RanPassing e limits records aad old new err err' (Err unrun.NoRecords) =
     ((keys : List (List ℕ)) → records ≡ flat_map framed keys → ⊥) × (new ≡ old) × (err' ≡ err)
-Passed e limits records aad old new err err' (Err unrun.Memory) = (new ≡ old) × (err' ≡ err)
-Passed e limits records aad old new err err' (Err why) = ⊥
+RanPassing e limits records aad old new err err' (Err unrun.Memory) = (new ≡ old) × (err' ≡ err)
+RanPassing e limits records aad old new err err' (Err why) = ⊥
 
 -- the same with digests: if the bytes are digests of 32 bytes, one after another, yes is said to the
 -- questions whose digests they are
@@ -62,16 +62,16 @@ PassedByDigests e limits bytes aad old new err err' (Err why) = ⊥
 -- how cose-pass ends with these arguments and what ACCEPTED holds, if it can be read: the gate ran
 -- by the records of the file, or with --digests by its digests; or it isn't run, and nothing was
 -- read, written or told
-pub data Passes {E G : Type 0} (e : Writes E G) (a : Option PassArguments) (file : Option (List ℕ))
+pub data PassEnds {E G : Type 0} (e : Writes E G) (a : Option PassArguments) (file : Option (List ℕ))
     (old new : Devices) (err err' : E) (result : Result ℕ NotRun) : Type 0 where
   not_run : (why : NotRun) → PassesNot a file why → result ≡ Err why → new ≡ old → err' ≡ err
-      → Passes e a file old new err err' result
+      → PassEnds e a file old new err err' result
   after_run : (b : PassArguments) → a ≡ Some b → b.digests ≡ false → (d : List ℕ)
       → aad_of b.aad ≡ Some d → (bytes records : List ℕ) → file ≡ Some bytes
       → IsAccepted bytes records
-      → Passed e (bounds_by b.strict) records d old new err err' result
-      → Passes e a file old new err err' result
+      → RanPassing e (bounds_by b.strict) records d old new err err' result
+      → PassEnds e a file old new err err' result
   by_digests : (b : PassArguments) → a ≡ Some b → b.digests ≡ true → (d : List ℕ)
       → aad_of b.aad ≡ Some d → (bytes : List ℕ) → file ≡ Some bytes
       → PassedByDigests e (bounds_by b.strict) bytes d old new err err' result
-      → Passes e a file old new err err' result
+      → PassEnds e a file old new err err' result

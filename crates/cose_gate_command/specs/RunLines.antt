@@ -45,9 +45,9 @@ pub data AreIndented : List ℕ → Type 0 where
       → AreIndented (text ++ indented line)
 
 -- nothing was written, or if it is verbose lines that begin with two blanks
-abbrev pub Adds : {W F : Type 0} → Writes W F → Bool → W → W → Type 0
-Adds w true old new = (said : List ℕ) × AreIndented said × Wrote w old new said
-Adds w false old new = Wrote w old new []
+abbrev pub AddsReasons : {W F : Type 0} → Writes W F → Bool → W → W → Type 0
+AddsReasons w true old new = (said : List ℕ) × AreIndented said × Wrote w old new said
+AddsReasons w false old new = Wrote w old new []
 
 -- a writer that holds nothing back goes on to hold nothing back, unless it has failed
 abbrev pub StaysHandedOn : {W F : Type 0} → Writes W F → W → W → Type 0
@@ -86,16 +86,16 @@ LogsSay-prop w manner was now told =
     SaysSince-prop w manner.verbose manner.quiet was.items now told.items
 
 -- the same of all that a run says, with the line on KEYS if it isn't verbose
-abbrev pub Says : {W F : Type 0} → Writes W F → Bool → Bool → List ℕ → Option (List ℕ) → W → W
+abbrev pub SaysAll : {W F : Type 0} → Writes W F → Bool → Bool → List ℕ → Option (List ℕ) → W → W
     → List Notice → Type 0
-Says w true quiet fault keys old new told =
+SaysAll w true quiet fault keys old new told =
     ∥ ((text : List ℕ) × Among quiet told text × Wrote w old new text) ∥₁
-Says w false quiet fault keys old new told =
+SaysAll w false quiet fault keys old new told =
     Wrote w old new (flat_map (line_with fault keys quiet) told)
 
 -- lines on a writer that is lent: how they are said, what the writer was at first, and what was
 -- told since
-pub record LineLog (W : Type 0) : Type 0 where
+pub record SaidLog (W : Type 0) : Type 0 where
   pub verbose : Bool
   pub quiet : Bool
   pub name : ℕ

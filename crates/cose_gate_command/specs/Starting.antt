@@ -41,14 +41,14 @@ why_line usage unrun.Memory = codes "stopped: memory\n"
 why_line usage unrun.Output = codes "stopped: write\n"
 
 -- a file can't be read for this reason
-abbrev pub IsUnread : List ℕ → Result Content NotRun → Type 0
-IsUnread reason (Ok c) = (c.bytes ≡ None) × (c.fault.now ≡ reason)
-IsUnread reason (Err why) = ⊥
+abbrev pub HasNoContent : List ℕ → Result Content NotRun → Type 0
+HasNoContent reason (Ok c) = (c.bytes ≡ None) × (c.fault.now ≡ reason)
+HasNoContent reason (Err why) = ⊥
 
 -- what reading a file with a fault of this kind gave
-abbrev pub Unread : ErrorKind → Result Content NotRun → Type 0
-Unread kind.OutOfMemory read = read ≡ Err unrun.Memory
-Unread kind.NotFound read = IsUnread (codes "no such file") read
-Unread kind.PermissionDenied read = IsUnread (codes "no permission") read
-Unread kind.IsADirectory read = IsUnread (codes "a folder") read
-Unread _ read = IsUnread (codes "it can't be read") read
+abbrev pub NoContentFor : ErrorKind → Result Content NotRun → Type 0
+NoContentFor kind.OutOfMemory read = read ≡ Err unrun.Memory
+NoContentFor kind.NotFound read = HasNoContent (codes "no such file") read
+NoContentFor kind.PermissionDenied read = HasNoContent (codes "no permission") read
+NoContentFor kind.IsADirectory read = HasNoContent (codes "a folder") read
+NoContentFor _ read = HasNoContent (codes "it can't be read") read

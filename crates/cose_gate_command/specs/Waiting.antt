@@ -39,7 +39,7 @@ last_line false last = []
 
 -- the lines of all but the last of these notices, those of the items, were written, and the last
 -- waits
-abbrev pub Held : {W F : Type 0} → Writes W F → W → W → Option Notice → List Notice → Type 0
-Held w old new last notices = (done : List Notice) × (next : Notice)
+abbrev pub HoldsLast : {W F : Type 0} → Writes W F → W → W → Option Notice → List Notice → Type 0
+HoldsLast w old new last notices = (done : List Notice) × (next : Notice)
     × (notices ≡ done ++ next ∷ []) × (last ≡ Some next) × (lines_of done ≡ item_lines notices)
     × Wrote w old new (lines_of done)

@@ -37,9 +37,9 @@ HasText w old new (Err unrun.Output) text = Beginning w old new 1 text
 HasText w old new (Err why) text = ⊥
 
 -- the same, and the writer is the same
-abbrev pub IsWritten : {W F : Type 0} → Writes W F → W → W → Result (Unit {0}) NotRun → List ℕ
+abbrev pub IsQuestionWritten : {W F : Type 0} → Writes W F → W → W → Result (Unit {0}) NotRun → List ℕ
     → Type 0
-IsWritten w old new written text = (w.handle new ≡ w.handle old) × HasText w old new written text
+IsQuestionWritten w old new written text = (w.handle new ≡ w.handle old) × HasText w old new written text
 
 -- the texts of all questions were written; or out of memory those of the first n; or a beginning,
 -- and the output failed
@@ -110,20 +110,20 @@ AreOut-prop w form first new written sent told =
     (AreWrittenSince-prop w form first.items new written (length sent.items) qs))
 
 -- nothing is held back, if each question was written and nothing was held back before the first
-abbrev pub HandedSince : {W F : Type 0} → Writes W F → List W → W → Result (Unit {0}) NotRun
+abbrev pub HandedIfOk : {W F : Type 0} → Writes W F → List W → W → Result (Unit {0}) NotRun
     → Type 0
-HandedSince w [] new written = Unit {0}
-HandedSince w (old ∷ more) new (Ok u) = w.held old ≡ [] → w.held new ≡ []
-HandedSince w (old ∷ more) new (Err why) = Unit {0}
+HandedIfOk w [] new written = Unit {0}
+HandedIfOk w (old ∷ more) new (Ok u) = w.held old ≡ [] → w.held new ≡ []
+HandedIfOk w (old ∷ more) new (Err why) = Unit {0}
 
-pub HandedSince-prop : {W F : Type 0} (w : Writes W F) (begun : List W) (new : W)
-    (written : Result (Unit {0}) NotRun) → IsProp (HandedSince w begun new written)
-HandedSince-prop w [] new written = Unit-prop
-HandedSince-prop w (old ∷ more) new (Ok u) = →_prop (Coded-set (coded_list coded_ℕ) _ _)
-HandedSince-prop w (old ∷ more) new (Err why) = Unit-prop
+pub HandedIfOk-prop : {W F : Type 0} (w : Writes W F) (begun : List W) (new : W)
+    (written : Result (Unit {0}) NotRun) → IsProp (HandedIfOk w begun new written)
+HandedIfOk-prop w [] new written = Unit-prop
+HandedIfOk-prop w (old ∷ more) new (Ok u) = →_prop (Coded-set (coded_list coded_ℕ) _ _)
+HandedIfOk-prop w (old ∷ more) new (Err why) = Unit-prop
 
 -- questions on a writer that is lent: what the writer was at first, and what was told since
-pub record Asked (W : Type 0) : Type 0 where
+pub record QuestionLog (W : Type 0) : Type 0 where
   pub name : ℕ
   pub was : List W
   pub form : Form

@@ -3,13 +3,13 @@ ghost use Rattle.std.specs.Prelude.{◌≡◌, ◌<◌, [], IfOk, MatchResult, O
 ghost use Rattle.std.specs.Prelude.{map, option_copied, option_map, string_bytes};
 ghost use Rattle.coset_keys.specs.View.{key_set_view};
 ghost use Rattle.cose_gate_command.specs.Arguments as spec;
-ghost use Rattle.cose_gate_command.specs.Asking.{Asks, Asked, AsksByRules, WentThrough};
+ghost use Rattle.cose_gate_command.specs.Asking.{AskEnds, RanAsks, AsksByRules, RanThrough};
 ghost use Rattle.cose_gate_command.specs.Asking.{or_status, reading, with_failures};
 ghost use Rattle.cose_gate_command.specs.Ends.{bounds_by};
 ghost use Rattle.cose_gate_command.specs.TokenArguments.{needed_by, token_view};
 ghost use Rattle.cose_gate_command.specs.Waiting.{last_line};
 ghost use Rattle.cose_gate_core.specs.Terms.{limits_of};
-ghost use Rattle.cose_gate_program.specs.Beginning.{aad_of, Begins, BeginsNot};
+ghost use Rattle.cose_gate_program.specs.Beginning.{aad_of, BeginsWith, BeginsNot};
 ghost use Rattle.cose_gate_program.specs.Telling.{writes};
 ghost use Rattle.cose_gate_program.specs.Writing.{Wrote, HandedOn};
 ghost use Rattle.cose_rules.specs.TokenView.{terms_view};
@@ -54,17 +54,17 @@ pub fn ask<'a, R: Read, W: Write, E: Write>(
     out: &mut W,
     err: &mut E,
 ) -> Result<u8, NotRun>
-    ensures ran { Asks W.Write E.Write (spec.ask_arguments (map string_bytes words.now))
+    ensures ran { AskEnds W.Write E.Write (spec.ask_arguments (map string_bytes words.now))
         (option_copied keys.entry) fault.now
         (reading R.Read input.old) (reading R.Read input.new)
         out.old out.new err.old err.new result }
     ensures kept { R.handle input.new ≡ R.handle input.old }
     ensures lent { W.handle out.new ≡ W.handle out.old }
     ensures handed { W.held out.old ≡ [] → IfOk result (λ status.
-        WentThrough (spec.ask_arguments (map string_bytes words.now)) status
+        RanThrough (spec.ask_arguments (map string_bytes words.now)) status
         → W.held out.new ≡ []) }
     ensures lines { IfOk result (λ status.
-        WentThrough (spec.ask_arguments (map string_bytes words.now)) status
+        RanThrough (spec.ask_arguments (map string_bytes words.now)) status
         → HandedOn E.Write err.old err.new) }
 {
     let Some(arguments) = ask_arguments(words) else {
@@ -128,7 +128,7 @@ fn begin_rules(
     keys: Option<&[u8]>,
     asked: AskArguments<'_>,
 ) -> Result<(Beginning, Vec<Label>), NotBegun>
-    ensures begun { MatchResult result (λ begun. Begins (option_copied keys.entry)
+    ensures begun { MatchResult result (λ begun. BeginsWith (option_copied keys.entry)
         (aad_of (option_copied asked.entry.aad)) (Ok begun.0))
         (λ why. BeginsNot (option_copied keys.entry) (aad_of (option_copied asked.entry.aad)) why) }
     ensures needed { IfOk result (λ begun.
@@ -184,7 +184,7 @@ fn ask_by<R: Read, W: Write, E: Write>(
     out: &mut W,
     err: &mut E,
 ) -> Result<u8, NotRun>
-    ensures ran { Asked W.Write E.Write (limits_of run.entry.terms) form run.entry.aad.now
+    ensures ran { RanAsks W.Write E.Write (limits_of run.entry.terms) form run.entry.aad.now
         (reading R.Read input.old) (reading R.Read input.new)
         out.old out.new err.old err.new result }
     ensures kept { R.handle input.new ≡ R.handle input.old }

@@ -3,7 +3,7 @@ ghost use Rattle.std.specs.Prelude.{◌≡◌, option_copied, true};
 ghost use Rattle.std.specs.List.{list_all};
 ghost use Rattle.cose_gate_program.specs.Writing.{Wrote};
 ghost use Rattle.cose_gate_command.specs.KeyFiles as spec;
-ghost use Rattle.cose_gate_command.specs.RunLines.{Adds};
+ghost use Rattle.cose_gate_command.specs.RunLines.{AddsReasons};
 ghost use Rattle.cose_reasons.specs.Texts.{is_of_base64, is_of_hex};
 
 use crate::more::{write_indented, write_more};
@@ -61,7 +61,7 @@ pub fn say_not_begun<W: Write>(
     aad: Option<&str>,
     out: &mut W,
 )
-    ensures { Adds W.Write true out.old out.new }
+    ensures { AddsReasons W.Write true out.old out.new }
 {
     let mut text = String::new(alloc);
     put_not_begun(why, file, aad, &mut Page::new(&mut text));

@@ -3,7 +3,7 @@ ghost use Rattle.std.specs.Prelude.{◌≡◌, ◌++◌, ◌∷◌, [], true};
 ghost use Rattle.cose_gate_program.specs.Writing.{Wrote, HandedOn, is_last};
 ghost use Rattle.cose_gate_program.specs.Writing.{HandedSince, HandedSince-prop};
 ghost use Rattle.cose_gate_command.specs.RunLines as spec;
-ghost use Rattle.cose_gate_command.specs.RunLines.{Adds, StaysHandedOn, LineLog};
+ghost use Rattle.cose_gate_command.specs.RunLines.{AddsReasons, StaysHandedOn, SaidLog};
 ghost use Rattle.cose_gate_command.specs.RunLines.{LogsSay, LogsSay-prop};
 
 use crate::explained::Note;
@@ -124,7 +124,7 @@ fn explain<W: Write>(
     note: &RefCell<Note>,
     out: &mut W,
 )
-    ensures said { Adds W.Write verbose out.old out.new }
+    ensures said { AddsReasons W.Write verbose out.old out.new }
     ensures handed { StaysHandedOn W.Write out.old out.new }
 {
     if !verbose {
@@ -134,7 +134,7 @@ fn explain<W: Write>(
 }
 
 impl<'o, 'n, W: Write> Teller for LineWriter<'o, 'n, W> {
-    ghost State = { LineLog W };
+    ghost State = { SaidLog W };
 
     ghost state = { λ l. record {
       verbose = l.manner.verbose;

@@ -1,7 +1,7 @@
 //! Questions as lines of text.
 ghost use Rattle.std.specs.Prelude.{◌≡◌, ◌<◌, ◌∷◌, ◌++◌, [], flat_map, slice_index};
 ghost use Rattle.hex.specs.Hex.{encode_lower, lower_digits};
-ghost use Rattle.cose_gate_command.specs.Asking.{Sent};
+ghost use Rattle.cose_gate_command.specs.Asking.{SentText};
 ghost use Rattle.cose_gate_command.specs.Lines as spec;
 ghost use Rattle.cose_gate_command.specs.Hex.{hex_field};
 ghost use Rattle.cose_gate_command.specs.Lines.{full_line, line_by, next_field, parts_of, told_as};
@@ -26,7 +26,7 @@ pub(crate) fn write_question<W: Write>(
     out: &mut W,
 ) -> Result<(), W::Error>
     ensures sent { (q : questions.Question) → (fields.now, «record».now) ≡ parts_of form q
-        → Sent W.Write out.old out.new result (told_as form q) }
+        → SentText W.Write out.old out.new result (told_as form q) }
     ensures lent { W.handle out.new ≡ W.handle out.old }
 {
     match form {
@@ -39,7 +39,7 @@ pub(crate) fn write_question<W: Write>(
 /// texts of the record and the record, with a space before each. An empty text is `-`.
 fn write_line<W: Write>(fields: &[u8], record: &[u8], out: &mut W) -> Result<(), W::Error>
     ensures sent { (q : questions.Question) → «record».now ≡ record_of q
-        → Sent W.Write out.old out.new result (full_line fields.now q) }
+        → SentText W.Write out.old out.new result (full_line fields.now q) }
     ensures lent { W.handle out.new ≡ W.handle out.old }
 {
     match read_question(record) {
@@ -55,7 +55,7 @@ fn write_fields<W: Write>(
     record: &[u8],
     out: &mut W,
 ) -> Result<(), W::Error>
-    ensures sent { Sent W.Write out.old out.new result (line_by question.now.kind fields.now
+    ensures sent { SentText W.Write out.old out.new result (line_by question.now.kind fields.now
         (texts_read question.now ++ «record».now ∷ [])) }
     ensures lent { W.handle out.new ≡ W.handle out.old }
 {
@@ -79,7 +79,7 @@ fn write_fields<W: Write>(
 
 /// Writes these texts, each with a space before it.
 fn write_texts<W: Write>(texts: &[&[u8]], out: &mut W) -> Result<(), W::Error>
-    ensures sent { Sent W.Write out.old out.new result
+    ensures sent { SentText W.Write out.old out.new result
         (flat_map (λ t. next_field t.now) texts.now) }
     ensures lent { W.handle out.new ≡ W.handle out.old }
 {
@@ -92,7 +92,7 @@ fn write_texts<W: Write>(texts: &[&[u8]], out: &mut W) -> Result<(), W::Error>
 
 /// Writes a field.
 fn write_field<W: Write>(text: &[u8], out: &mut W) -> Result<(), W::Error>
-    ensures sent { Sent W.Write out.old out.new result (hex_field «text».now) }
+    ensures sent { SentText W.Write out.old out.new result (hex_field «text».now) }
     ensures lent { W.handle out.new ≡ W.handle out.old }
 {
     if text.is_empty() {
@@ -103,7 +103,7 @@ fn write_field<W: Write>(text: &[u8], out: &mut W) -> Result<(), W::Error>
 
 /// Writes bytes in hex.
 fn write_hex<W: Write>(bytes: &[u8], out: &mut W) -> Result<(), W::Error>
-    ensures sent { Sent W.Write out.old out.new result (encode_lower bytes.now) }
+    ensures sent { SentText W.Write out.old out.new result (encode_lower bytes.now) }
     ensures lent { W.handle out.new ≡ W.handle out.old }
 {
     for byte in bytes {

@@ -3,7 +3,7 @@ ghost use Rattle.std.specs.Prelude.{◌≡◌, [], ◌++◌, true};
 ghost use Rattle.cose_gate_program.specs.Writing.{Wrote};
 ghost use Rattle.cose_gate_command.specs.KeyFiles.{indented};
 ghost use Rattle.cose_gate_command.specs.RunLines as spec;
-ghost use Rattle.cose_gate_command.specs.RunLines.{Adds, StaysHandedOn};
+ghost use Rattle.cose_gate_command.specs.RunLines.{AddsReasons, StaysHandedOn};
 
 use crate::explained::Note;
 use ciborium_ll::Write;
@@ -22,7 +22,7 @@ pub(crate) struct Place {
 /// Says more of a notice: what a refusal means, or what stopped a run whose next item is at this
 /// place. The note is that of the judge.
 pub(crate) fn say_more<W: Write>(notice: &Notice, place: Place, note: &RefCell<Note>, out: &mut W)
-    ensures said { Adds W.Write true out.old out.new }
+    ensures said { AddsReasons W.Write true out.old out.new }
     ensures handed { StaysHandedOn W.Write out.old out.new }
 {
     let Ok(mut guard) = note.try_borrow_mut() else {
@@ -40,7 +40,7 @@ pub(crate) fn say_more<W: Write>(notice: &Notice, place: Place, note: &RefCell<N
 
 /// Says of the keys what is said once, and flushes the writer.
 pub fn say_keys<W: Write>(note: &RefCell<Note>, out: &mut W)
-    ensures { Adds W.Write true out.old out.new }
+    ensures { AddsReasons W.Write true out.old out.new }
 {
     let keys = match note.try_borrow() {
         Ok(note) => note.keys,
@@ -52,7 +52,7 @@ pub fn say_keys<W: Write>(note: &RefCell<Note>, out: &mut W)
 
 /// Says why the judge has said no to one message.
 pub fn say_reason<W: Write>(note: &RefCell<Note>, out: &mut W)
-    ensures { Adds W.Write true out.old out.new }
+    ensures { AddsReasons W.Write true out.old out.new }
 {
     match note.try_borrow() {
         Ok(note) if !note.reason.is_empty() => write_more(note.reason.as_str(), "", out),
@@ -62,7 +62,7 @@ pub fn say_reason<W: Write>(note: &RefCell<Note>, out: &mut W)
 
 /// Says what stopped a run over one message.
 pub fn say_fault<W: Write>(fault: &GateFault<InputFault>, note: &RefCell<Note>, out: &mut W)
-    ensures { Adds W.Write true out.old out.new }
+    ensures { AddsReasons W.Write true out.old out.new }
 {
     let Ok(mut guard) = note.try_borrow_mut() else {
         return;
@@ -193,7 +193,7 @@ fn remedy(notice: &Notice) -> &'static str {
 /// Writes a line that begins with two blanks and holds these two texts, if they aren't empty. Of
 /// one that isn't of one line nothing is written.
 pub fn write_more<W: Write>(first: &str, then: &str, out: &mut W)
-    ensures { Adds W.Write true out.old out.new }
+    ensures { AddsReasons W.Write true out.old out.new }
 {
     if first.is_empty() && then.is_empty() {
         return;

@@ -8,7 +8,7 @@ ghost use Rattle.cose_gate_core.specs.Terms.{limits_of};
 ghost use Rattle.cose_gate_program.specs.Beginning.{aad_of};
 ghost use Rattle.cose_gate_command.specs.Arguments as spec;
 ghost use Rattle.cose_gate_command.specs.Arguments.{ask_view, pass_view};
-ghost use Rattle.cose_gate_command.specs.Asking.{IsNoAad};
+ghost use Rattle.cose_gate_command.specs.Asking.{IsNoHexAad};
 ghost use Rattle.cose_gate_command.specs.Ends.{bounds_by};
 ghost use Rattle.cose_gate_command.specs.Lines.{form_of};
 ghost use Rattle.cose_gate_command.specs.Options.{asks_after};
@@ -229,7 +229,7 @@ fn with_digests(digests: bool, words: &[String]) -> Option<PassArguments<'_>>
 /// `NotHex` if it is not hex, and `Memory`.
 pub(crate) fn read_aad(alloc: Global, aad: Option<&str>) -> Result<Vec<u8>, NotRun>
     ensures { MatchResult result (λ d. aad_of (option_copied aad.entry) ≡ Some d.items)
-        (λ why. IsNoAad (option_copied aad.entry) why) }
+        (λ why. IsNoHexAad (option_copied aad.entry) why) }
 {
     let Some(text) = aad else {
         return Ok(Vec::new(alloc));

@@ -2,7 +2,7 @@
 ghost use Rattle.std.specs.Prelude.{◌≡◌, ◌<◌, [], IfOk, OnOk, map, option_map, string_bytes};
 ghost use Rattle.cose_gate_core.specs.Terms.{limits_of};
 ghost use Rattle.cose_gate_command.specs.Arguments as spec;
-ghost use Rattle.cose_gate_command.specs.Passing.{Passed, PassedByDigests, Passes};
+ghost use Rattle.cose_gate_command.specs.Passing.{RanPassing, PassedByDigests, PassEnds};
 ghost use Rattle.cose_gate_program.specs.Program.{devices_of};
 ghost use Rattle.cose_gate_program.specs.Writing.{HandedOn};
 
@@ -29,7 +29,7 @@ pub fn pass<R: Read, W: Write, E: Write>(
     out: &mut W,
     err: &mut E,
 ) -> Result<u8, NotRun>
-    ensures ran { Passes E.Write (spec.pass_arguments (map string_bytes words.now))
+    ensures ran { PassEnds E.Write (spec.pass_arguments (map string_bytes words.now))
         (option_map (λ bytes. bytes.items) accepted)
         (devices_of R.Read W.Write input.old out.old)
         (devices_of R.Read W.Write input.new out.new) err.old err.new result }
@@ -62,7 +62,7 @@ fn pass_by<R: Read, W: Write, E: Write>(
     out: &mut W,
     err: &mut E,
 ) -> Result<u8, NotRun>
-    ensures ran { Passed E.Write (limits_of run.entry.terms) records.now run.entry.aad.now
+    ensures ran { RanPassing E.Write (limits_of run.entry.terms) records.now run.entry.aad.now
         (devices_of R.Read W.Write input.old out.old)
         (devices_of R.Read W.Write input.new out.new) err.old err.new result }
     ensures kept { R.handle input.new ≡ R.handle input.old }

@@ -4,8 +4,8 @@ ghost use Rattle.std.specs.Prelude.{◌+◌, if◌then◌else◌, length};
 ghost use Rattle.cose_gate_core.specs.Lent.{subject_of};
 ghost use Rattle.cose_gate_core.specs.Questions.{Question};
 ghost use Rattle.cose_gate_command.specs.Lines.{fields_in, parts_of, told_as};
-ghost use Rattle.cose_gate_command.specs.Written.{IsWritten, Asked, AreOut, parts_in};
-ghost use Rattle.cose_gate_command.specs.Written.{AreOut-prop, HandedSince, HandedSince-prop};
+ghost use Rattle.cose_gate_command.specs.Written.{IsQuestionWritten, QuestionLog, AreOut, parts_in};
+ghost use Rattle.cose_gate_command.specs.Written.{AreOut-prop, HandedIfOk, HandedIfOk-prop};
 ghost use Rattle.cose_gate_records.specs.Kept.{IsHeld, pieces_of};
 
 use crate::fields::key_fields;
@@ -53,7 +53,7 @@ pub(crate) struct QuestionWriter<'a, W: Write> {
     /// As many as were written.
     sent: Log<usize>,
     ghost are_out: { AreOut W.Write form was out.now written sent told.now } by { AreOut-prop W.Write _ _ _ _ _ _ },
-    ghost handed: { HandedSince W.Write was.items out.now written } by { HandedSince-prop W.Write _ _ _ },
+    ghost handed: { HandedIfOk W.Write was.items out.now written } by { HandedIfOk-prop W.Write _ _ _ },
 }
 
 impl<'a, W: Write> QuestionWriter<'a, W> {
@@ -118,7 +118,7 @@ fn write_next<W: Write>(
     ensures before { OnErr written ((result ≡ written) × (out.new ≡ out.old)) }
     ensures next { OnOk written ((q : Question)
         → IfOk made (λ r. (fields.now, r.items) ≡ parts_of form q)
-        → IsWritten W.Write out.old out.new result (told_as form q)) }
+        → IsQuestionWritten W.Write out.old out.new result (told_as form q)) }
     ensures handed { OnOk result (W.held out.new ≡ []) }
 {
     written?;
@@ -137,7 +137,7 @@ fn write_next<W: Write>(
 impl<'a, W: Write> Judge for QuestionWriter<'a, W> {
     ghost Who = { Unit {0} };
 
-    ghost Told = { Asked W };
+    ghost Told = { QuestionLog W };
 
     ghost who = { λ _. tt };
 

@@ -7,9 +7,9 @@ ghost use Rattle.std.specs.Vec.Iter.{into_iter_items};
 ghost use Rattle.cose_gate_program.specs.OutOfBlocks.{out_blocks_failures, out_blocks_held};
 ghost use Rattle.cose_gate_program.specs.OutOfBlocks.{out_blocks_writer};
 ghost use Rattle.cose_gate_program.specs.Writing.{Wrote};
-ghost use Rattle.cose_gate_command.specs.Asking.{Sent, status_of};
+ghost use Rattle.cose_gate_command.specs.Asking.{SentText, status_of};
 ghost use Rattle.cose_gate_command.specs.Starting as spec;
-ghost use Rattle.cose_gate_command.specs.Starting.{Unread, why_line, why_no_words};
+ghost use Rattle.cose_gate_command.specs.Starting.{NoContentFor, why_line, why_no_words};
 
 use crate::not_run::NotRun;
 use ciborium_ll::Write;
@@ -111,7 +111,7 @@ pub fn write_in_blocks<W: io::Write + Drop>(
 /// # Errors
 /// `Output`.
 pub fn write_page<W: Write>(page: &str, out: &mut W) -> Result<u8, NotRun>
-    ensures sent { Sent W.Write out.old out.new result page.now }
+    ensures sent { SentText W.Write out.old out.new result page.now }
     ensures status { IfOk result (λ status. status ≡ 0) }
     ensures err { IfErr result (λ why. why ≡ NotRun.Output) }
 {
@@ -187,7 +187,7 @@ impl Content {
     pub fn of_file(read: io::Result<Vec<u8>>) -> Result<Content, NotRun>
         ensures { MatchResult read
             (λ bytes. MatchResult result (λ content. content.bytes ≡ Some bytes) (λ why. ⊥))
-            (λ e. Unread (error_kind e) result) }
+            (λ e. NoContentFor (error_kind e) result) }
     {
         match read {
             Ok(bytes) => Ok(Content {

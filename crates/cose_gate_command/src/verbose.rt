@@ -7,7 +7,7 @@ ghost use Rattle.cose_gate_program.specs.Telling.{EndsTold};
 ghost use Rattle.cose_gate_program.specs.Writing.{HandedOn};
 ghost use Rattle.cose_gate_program.specs.declared.telling.Notice.TheVariants as notice;
 ghost use Rattle.cose_gate_command.specs.Ends.{bounds_by};
-ghost use Rattle.cose_gate_command.specs.RunLines.{Says};
+ghost use Rattle.cose_gate_command.specs.RunLines.{SaysAll};
 
 use crate::arguments::Arguments;
 use crate::counted::Counted;
@@ -30,7 +30,7 @@ pub(crate) fn end_unbegun<E: Write>(
     err: &mut E,
 ) -> u8
     ensures status { result ≡ status_of why }
-    ensures said { Says E.Write asked.entry.verbose asked.entry.quiet file.entry.fault.now
+    ensures said { SaysAll E.Write asked.entry.verbose asked.entry.quiet file.entry.fault.now
         (option_copied file.entry.bytes) err.old err.new (notice.NotBegun why ∷ []) }
 {
     write_notice(&Notice::NotBegun(why), err);
@@ -61,7 +61,7 @@ pub(crate) fn run_asked<'f, 'd, R: Read, W: Write, E: Write>(
         (aad_of (option_copied asked.entry.aad))
         (devices_of R.Read W.Write input.old out.old)
         (devices_of R.Read W.Write input.new out.new) result
-        (Says E.Write asked.entry.verbose asked.entry.quiet file.entry.fault.now
+        (SaysAll E.Write asked.entry.verbose asked.entry.quiet file.entry.fault.now
         (option_copied file.entry.bytes) err.old err.new) }
     ensures kept { R.handle input.new ≡ R.handle input.old }
     ensures lent { W.handle out.new ≡ W.handle out.old }

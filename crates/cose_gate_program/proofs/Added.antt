@@ -11,7 +11,7 @@ use Rattle.std.proofs.lemmas.Bool.{true≢false}
 use Rattle.std.proofs.lemmas.Map.Text.{btree_map_updates_str}
 use Rattle.std.proofs.lemmas.Slice.Eq.{bytes_eq-Decides}
 use Rattle.coset_keys.specs.Fields.{KeyFields}
-use Rattle.cose_gate_program.specs.Indexed.{Secrets, secret_at, IsIndexOf, Adds, Enters}
+use Rattle.cose_gate_program.specs.Indexed.{Secrets, secret_at, IsIndexOf, AddsKey, Enters}
 use Rattle.cose_rules.specs.Algorithms.{symmetric, verify_mac}
 use Rattle.cose_rules.specs.Keys.{allows, is_entry, permits}
 use Rattle.cose_gate_program.specs.Keys.{hmac_256, secret, fits, serves, secret_under}
@@ -56,7 +56,7 @@ alone true true k o e = e
 alone true false k o e = e
 alone false v k o e = refl
 
-pub added : (m n : Secrets) (k : KeyFields) (s : List ℕ) → Some s ≡ (if serves k then secret k else None) → Enters m k.key_id s n → Adds m k n
+pub added : (m n : Secrets) (k : KeyFields) (s : List ℕ) → Some s ≡ (if serves k then secret k else None) → Enters m k.key_id s n → AddsKey m k n
 added m n k s e h id = h id ∙ ap (λ z. option_or (secret_at m id) z) (alone (bytes_eq k.key_id id) (serves k) k (Some s) e)
 
 third : (a b c d : Bool) → (a && (b && (c && d))) ≡ true → c ≡ true
@@ -77,5 +77,5 @@ behind id [] k = refl
 behind id (j ∷ ks) k = first_or (fits id j) j (find (fits id) ks) (find (fits id) (ks ++ k ∷ [])) (secret_under id (k ∷ []))
     (third (bytes_eq j.key_id id) (is_entry symmetric j.kty) (is_some (secret j)) (allows hmac_256 j.alg && permits verify_mac j.key_ops)) (behind id ks k)
 
-pub indexed : (m n : Secrets) (ks all : List KeyFields) (k : KeyFields) → IsIndexOf m ks → Adds m k n → all ≡ (ks ++ k ∷ []) → IsIndexOf n all
+pub indexed : (m n : Secrets) (ks all : List KeyFields) (k : KeyFields) → IsIndexOf m ks → AddsKey m k n → all ≡ (ks ++ k ∷ []) → IsIndexOf n all
 indexed m n ks all k is h e id = h id ∙ ap (λ z. option_or z (secret_under id (k ∷ []))) (is id) ∙ sym (behind id ks k) ∙ sym (ap (λ z. secret_under id z) e)

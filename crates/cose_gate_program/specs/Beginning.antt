@@ -62,8 +62,8 @@ BeginsNot keys aad (NoKeys e) =
 BeginsNot keys aad Memory = (b : List ℕ) × (keys ≡ Some b)
 
 -- the key set that KEYS holds, and the external data
-abbrev pub Begins : Option (List ℕ) → Option (List ℕ) → Result Beginning NotBegun → Type 0
-Begins keys aad (Ok d) =
+abbrev pub BeginsWith : Option (List ℕ) → Option (List ℕ) → Result Beginning NotBegun → Type 0
+BeginsWith keys aad (Ok d) =
     (b : List ℕ) × (keys ≡ Some b) × (aad ≡ Some d.aad.items)
     × HasItem HasKeySet b (key_set_view d.keys)
-Begins keys aad (Err why) = BeginsNot keys aad why
+BeginsWith keys aad (Err why) = BeginsNot keys aad why

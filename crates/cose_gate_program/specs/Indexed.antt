@@ -21,8 +21,8 @@ abbrev pub IsIndexOf : Secrets → List KeyFields → Type 0
 IsIndexOf m keys = (id : List ℕ) → secret_at m id ≡ secret_under id keys
 
 -- the index n has what m has, and where m has nothing the secret of this key
-abbrev pub Adds : Secrets → KeyFields → Secrets → Type 0
-Adds m k n = (id : List ℕ) → secret_at n id ≡ option_or (secret_at m id) (secret_under id (k ∷ []))
+abbrev pub AddsKey : Secrets → KeyFields → Secrets → Type 0
+AddsKey m k n = (id : List ℕ) → secret_at n id ≡ option_or (secret_at m id) (secret_under id (k ∷ []))
 
 -- n has what m has, and at this id, if m has nothing there, this secret
 abbrev pub Enters : Secrets → List ℕ → List ℕ → Secrets → Type 0

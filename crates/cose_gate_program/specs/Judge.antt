@@ -22,8 +22,8 @@ says_yes keys q = is_tag_under (secret_about keys q.subject) q.covered q.signatu
 
 -- a tag in the making has been fed the covered bytes under the secret; if there is no secret none
 -- is made
-abbrev pub Makes : Option HmacSha256 → Option (List ℕ) → List ℕ → Type 0
-Makes None None covered = Unit {0}
-Makes None (Some key) covered = ⊥
-Makes (Some mac) None covered = ⊥
-Makes (Some mac) (Some key) covered = Holds mac key covered
+abbrev pub MakesTag : Option HmacSha256 → Option (List ℕ) → List ℕ → Type 0
+MakesTag None None covered = Unit {0}
+MakesTag None (Some key) covered = ⊥
+MakesTag (Some mac) None covered = ⊥
+MakesTag (Some mac) (Some key) covered = Holds mac key covered

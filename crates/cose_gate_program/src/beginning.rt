@@ -4,7 +4,7 @@ ghost use Rattle.coset_labels.specs.Reading.{HasItem};
 ghost use Rattle.coset_keys.specs.Keys.{HasKeySet};
 ghost use Rattle.coset_keys.specs.View.{key_set_view};
 ghost use Rattle.cose_gate_program.specs.Beginning as spec;
-ghost use Rattle.cose_gate_program.specs.Beginning.{aad_of, Begins, IsNoAad, IsNoKeySet};
+ghost use Rattle.cose_gate_program.specs.Beginning.{aad_of, BeginsWith, IsNoAad, IsNoKeySet};
 
 use coset_keys::CoseKeySet;
 use coset_labels::{CborSerializable, CoseError};
@@ -78,7 +78,7 @@ impl From<CoseError> for NotBegun {
 /// `NoFile` if there are no bytes; `NotHex`; `NoKeys` if they are not a key set (RFC 9052, section
 /// 7); `Memory`. They are tested in this order.
 pub fn begin(alloc: Global, keys: Option<&[u8]>, aad: Option<&str>) -> Result<Beginning, NotBegun>
-    ensures { Begins (option_copied keys.entry) (aad_of (option_copied aad.entry)) result }
+    ensures { BeginsWith (option_copied keys.entry) (aad_of (option_copied aad.entry)) result }
 {
     match keys {
         Some(bytes) => {

@@ -2,7 +2,7 @@
 ghost use Rattle.std.specs.Prelude.{◌≡◌, IfSome, OnOk, map, option_map, option_copied};
 ghost use Rattle.std.proofs.Props.{props};
 ghost use Rattle.coset_keys.specs.View.{key_view, key_set_view};
-ghost use Rattle.cose_gate_program.specs.Indexed.{IsIndexOf, Adds, Enters};
+ghost use Rattle.cose_gate_program.specs.Indexed.{IsIndexOf, AddsKey, Enters};
 ghost use Rattle.cose_gate_program.specs.Keys.{secret_under};
 
 use crate::keys::serving_secret;
@@ -72,7 +72,7 @@ fn add_key<'a>(
     by_id: &mut BTreeMap<&'a [u8], PreparedSecret<'a>>,
     key: &'a CoseKey,
 ) -> Result<(), AllocError>
-    ensures { OnOk result (Adds by_id.old (key_view key.now) by_id.new) }
+    ensures { OnOk result (AddsKey by_id.old (key_view key.now) by_id.new) }
 {
     match serving_secret(key) {
         Some(secret) => add_secret(by_id, &key.key_id, secret),

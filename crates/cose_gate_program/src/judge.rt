@@ -6,7 +6,7 @@ ghost use Rattle.coset_keys.specs.View.{key_set_view};
 ghost use Rattle.cose_gate_core.specs.Lent.{subject_of};
 ghost use Rattle.cose_gate_core.specs.Questions.{Subject};
 ghost use Rattle.cose_gate_program.specs.Judge as spec;
-ghost use Rattle.cose_gate_program.specs.Judge.{Makes, says_yes};
+ghost use Rattle.cose_gate_program.specs.Judge.{MakesTag, says_yes};
 ghost use Rattle.cose_gate_program.specs.Judging.{is_tag_under};
 ghost use Rattle.cose_gate_program.specs.Keeps.{keys_of, keys_in};
 
@@ -49,7 +49,7 @@ impl<'a> HmacJudge<'a> {
 
     /// An HMAC for the tag of a message, which was fed nothing yet.
     fn fresh_mac(&self, about: &About) -> Option<HmacSha256>
-        ensures { Makes result (spec.secret_about (keys_of self.now) (subject_of about.now)) [] }
+        ensures { MakesTag result (spec.secret_about (keys_of self.now) (subject_of about.now)) [] }
     {
         match &self.keys {
             Keys::Set(keys) => mac_under(secret_about(keys, about)),
@@ -81,8 +81,8 @@ fn secret_about<'a>(keys: &'a CoseKeySet, about: &About) -> Option<&'a [u8]>
 }
 
 fn feed_into(mac: &mut Option<HmacSha256>, piece: &[u8])
-    ensures { (secret : Option (List ℕ)) (covered : List ℕ) → Makes mac.old secret covered
-        → Makes mac.new secret (covered ++ piece.now) }
+    ensures { (secret : Option (List ℕ)) (covered : List ℕ) → MakesTag mac.old secret covered
+        → MakesTag mac.new secret (covered ++ piece.now) }
 {
     if let Some(mac) = mac {
         mac.update(piece);
@@ -90,7 +90,7 @@ fn feed_into(mac: &mut Option<HmacSha256>, piece: &[u8])
 }
 
 fn is_made(mac: Option<HmacSha256>, tag: &[u8]) -> bool
-    ensures { (secret : Option (List ℕ)) (covered : List ℕ) → Makes mac secret covered
+    ensures { (secret : Option (List ℕ)) (covered : List ℕ) → MakesTag mac secret covered
         → result ≡ is_tag_under secret covered tag.now }
 {
     match mac {
@@ -109,7 +109,7 @@ impl Judge for HmacJudge<'_> {
     ghost told = { λ _. tt };
 
     ghost holds = { λ j subject covered.
-        Makes j.mac (spec.secret_about (keys_of j) subject) covered };
+        MakesTag j.mac (spec.secret_about (keys_of j) subject) covered };
 
     ghost pieces = { λ j. j.pieces.items };
 
@@ -119,7 +119,7 @@ impl Judge for HmacJudge<'_> {
 
     fn begin(&mut self, about: &About) -> Result<(), AllocError>
         ensures ready { IsOk result }
-        ensures holds { OnOk result (Makes self.new.mac
+        ensures holds { OnOk result (MakesTag self.new.mac
             (spec.secret_about (keys_of self.new) (subject_of about.now)) []) }
         ensures pieces { OnOk result (self.new.pieces.items ≡ []) }
         ensures who { keys_of self.new ≡ keys_of self.old }
@@ -132,8 +132,8 @@ impl Judge for HmacJudge<'_> {
     fn feed(&mut self, piece: &[u8]) -> Result<(), AllocError>
         ensures ready { IsOk result }
         ensures holds { OnOk result ((subject : Subject) (covered : List ℕ)
-            → Makes self.old.mac (spec.secret_about (keys_of self.old) subject) covered
-            → Makes self.new.mac (spec.secret_about (keys_of self.new) subject)
+            → MakesTag self.old.mac (spec.secret_about (keys_of self.old) subject) covered
+            → MakesTag self.new.mac (spec.secret_about (keys_of self.new) subject)
             (covered ++ piece.now)) }
         ensures pieces { OnOk result (self.new.pieces.items
             ≡ self.old.pieces.items ++ length piece.now ∷ []) }

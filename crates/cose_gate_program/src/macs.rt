@@ -4,7 +4,7 @@ ghost use Rattle.cose_gate_core.specs.HeaderView.{header_view, protected_view};
 ghost use Rattle.cose_gate_core.specs.Lent.{subject_of};
 ghost use Rattle.coset_keys.specs.View.{key_set_view};
 ghost use Rattle.cose_gate_program.specs.Judge as spec;
-ghost use Rattle.cose_gate_program.specs.Judge.{Makes};
+ghost use Rattle.cose_gate_program.specs.Judge.{MakesTag};
 ghost use Rattle.cose_gate_program.specs.Judging as judging;
 
 use crate::index::KeyIndex;
@@ -15,7 +15,7 @@ use cose_rules::{Layer, id_in};
 
 /// An HMAC under a secret, which was fed nothing yet; none without a secret.
 pub(crate) fn mac_under(secret: Option<&[u8]>) -> Option<HmacSha256>
-    ensures { Makes result (option_copied secret.entry) [] }
+    ensures { MakesTag result (option_copied secret.entry) [] }
 {
     match secret {
         Some(secret) => Some(HmacSha256::new(secret)),
@@ -30,7 +30,7 @@ fn mac_for(
     protected: &ProtectedHeader,
     unprotected: &Header,
 ) -> Option<HmacSha256>
-    ensures { Makes result (judging.secret_for (key_set_view index.now.set.now)
+    ensures { MakesTag result (judging.secret_for (key_set_view index.now.set.now)
         (protected_view protected.now) (header_view unprotected.now)) [] }
 {
     if !may_judge(protected, unprotected) {
@@ -49,7 +49,7 @@ fn mac_for(
 /// An HMAC for the tag of a message, which was fed nothing yet; none if it is no COSE_Mac0, or no
 /// key fits.
 pub(crate) fn mac_about(index: &KeyIndex, about: &About) -> Option<HmacSha256>
-    ensures { Makes result (spec.secret_about (key_set_view index.now.set.now)
+    ensures { MakesTag result (spec.secret_about (key_set_view index.now.set.now)
         (subject_of about.now)) [] }
 {
     match about.kind {

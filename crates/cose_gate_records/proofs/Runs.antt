@@ -11,7 +11,7 @@ use Rattle.cose_gate_program.specs.Telling.{RanTold, EndsTold}
 use Rattle.cose_gate_program.specs.declared.telling.Notice.{Notice}
 use Rattle.cose_gate_records.specs.Framing.{framed}
 use Rattle.cose_gate_records.specs.Records.{is_among}
-use Rattle.cose_gate_records.specs.Calls.{devices, RanBy, Passed, Places, Buffers, Answers}
+use Rattle.cose_gate_records.specs.Calls.{devices, RanBy, PassTold, Places, Buffers, Answers}
 use Rattle.cose_gate_records.specs.declared.answer.Answer.{Answer}
 
 -- input and output by their parts
@@ -70,5 +70,5 @@ places_none status old new answer l s e = record {
 -- by the keys that were accepted, or it is out of memory
 pub passed : (limits : Bounds) (accepted : List ℕ) (keys : List (List ℕ)) (aad input lines : List ℕ) (count : ℕ) (written : List ℕ) (status : ℕ)
     → accepted ≡ flat_map framed keys → RanBy limits (is_among keys) aad input lines count written status
-    → Passed limits accepted aad input lines count written status
+    → PassTold limits accepted aad input lines count written status
 passed limits accepted keys aad input lines count written status e r = inl (keys, e, r)

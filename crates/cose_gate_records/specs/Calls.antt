@@ -30,8 +30,8 @@ NoMemory written status = (written ≡ []) × (status ≡ 4)
 
 -- out of memory for what a run over this input wrote or was asked: the lines are those of the run,
 -- but for the last
-abbrev pub IsCut : Bounds → (Question → Bool) → List ℕ → List ℕ → List ℕ → ℕ → Type 0
-IsCut limits allows aad input lines count =
+abbrev pub IsCutShort : Bounds → (Question → Bool) → List ℕ → List ℕ → List ℕ → ℕ → Type 0
+IsCutShort limits allows aad input lines count =
     (old : Devices) × (new : Devices) × (status : ℕ) × (old.left ≡ Some input)
     × RanTold limits allows aad old new status (λ _. Unit {0}) (AreLinesThenMemory lines count)
 
@@ -61,8 +61,8 @@ Answers nesting layers IsText old new answer =
     × (new.out ≡ old.out) × (answer.lines ≡ 0) × (new.lines ≡ old.lines))
 
 -- the program's run over memory: it wrote its output, or memory ran out for that
-abbrev pub Checked : Bounds → List ℕ → List ℕ → List ℕ → List ℕ → ℕ → List ℕ → ℕ → Type 0
-Checked limits keys aad input lines count written status =
+abbrev pub CheckTold : Bounds → List ℕ → List ℕ → List ℕ → List ℕ → ℕ → List ℕ → ℕ → Type 0
+CheckTold limits keys aad input lines count written status =
     Runs limits keys aad input lines count written status
     ⊎ (NoMemory written status × ((new : Devices) × (ended : ℕ)
     × EndsTold limits says_yes (Some keys) (Some aad) (devices (Some input) (Some [])) new ended
@@ -71,7 +71,7 @@ Checked limits keys aad input lines count written status =
 abbrev pub Checks : ℕ → ℕ → Bool → List ℕ → List ℕ → List ℕ → Buffers → Buffers → Answer → Type 0
 Checks nesting layers strict keys aad input old new answer =
     Answers nesting layers
-    (Checked (within nesting layers strict) keys aad input new.lines answer.lines) old new answer
+    (CheckTold (within nesting layers strict) keys aad input new.lines answer.lines) old new answer
 
 -- the output is the records of the questions that were asked in a run with a judge who always says
 -- yes, in order, and the lines are those of that run
@@ -81,15 +81,15 @@ TellsIn limits aad input lines count text status = (left : Option (List ℕ))
     (λ asked. text ≡ flat_map record_of asked) (AreLinesOf lines count)
 
 -- that, or memory ran out for the records
-abbrev pub Told : Bounds → List ℕ → List ℕ → List ℕ → ℕ → List ℕ → ℕ → Type 0
-Told limits aad input lines count written status =
+abbrev pub AskTold : Bounds → List ℕ → List ℕ → List ℕ → ℕ → List ℕ → ℕ → Type 0
+AskTold limits aad input lines count written status =
     TellsIn limits aad input lines count written status
-    ⊎ (NoMemory written status × IsCut limits (λ _. true) aad input lines count)
+    ⊎ (NoMemory written status × IsCutShort limits (λ _. true) aad input lines count)
 
-abbrev pub Asks : ℕ → ℕ → Bool → List ℕ → List ℕ → Buffers → Buffers → Answer → Type 0
-Asks nesting layers strict aad input old new answer =
+abbrev pub AsksWithin : ℕ → ℕ → Bool → List ℕ → List ℕ → Buffers → Buffers → Answer → Type 0
+AsksWithin nesting layers strict aad input old new answer =
     Answers nesting layers
-    (Told (within nesting layers strict) aad input new.lines answer.lines) old new answer
+    (AskTold (within nesting layers strict) aad input new.lines answer.lines) old new answer
 
 -- the run with a judge that allows these questions
 abbrev pub RunsBy : Bounds → (Question → Bool) → List ℕ → List ℕ → List ℕ → ℕ → List ℕ → ℕ
@@ -103,22 +103,22 @@ abbrev pub RanBy : Bounds → (Question → Bool) → List ℕ → List ℕ → 
     → Type 0
 RanBy limits allows aad input lines count written status =
     RunsBy limits allows aad input lines count written status
-    ⊎ (NoMemory written status × IsCut limits allows aad input lines count)
+    ⊎ (NoMemory written status × IsCutShort limits allows aad input lines count)
 
 -- if what was accepted is records, one after another, that run; else nothing was read, and the lines
 -- are one that says so. If memory ran out for the records, nothing was read either.
-abbrev pub Passed : Bounds → List ℕ → List ℕ → List ℕ → List ℕ → ℕ → List ℕ → ℕ → Type 0
-Passed limits accepted aad input lines count written status =
+abbrev pub PassTold : Bounds → List ℕ → List ℕ → List ℕ → List ℕ → ℕ → List ℕ → ℕ → Type 0
+PassTold limits accepted aad input lines count written status =
     ((keys : List (List ℕ)) × (accepted ≡ flat_map framed keys)
     × RanBy limits (is_among keys) aad input lines count written status)
     ⊎ (((keys : List (List ℕ)) → accepted ≡ flat_map framed keys → ⊥) × (written ≡ []) × (status ≡ 3)
     × AreLines no_records lines count)
     ⊎ (NoMemory written status × AreLines stopped lines count)
 
-abbrev pub Passes : ℕ → ℕ → Bool → List ℕ → List ℕ → List ℕ → Buffers → Buffers → Answer → Type 0
-Passes nesting layers strict accepted aad input old new answer =
+abbrev pub PassesWithin : ℕ → ℕ → Bool → List ℕ → List ℕ → List ℕ → Buffers → Buffers → Answer → Type 0
+PassesWithin nesting layers strict accepted aad input old new answer =
     Answers nesting layers
-    (Passed (within nesting layers strict) accepted aad input new.lines answer.lines) old new answer
+    (PassTold (within nesting layers strict) accepted aad input new.lines answer.lines) old new answer
 
 -- the same with digests of 32 bytes, one after another, in place of records
 abbrev pub PassedDigests : Bounds → List ℕ → List ℕ → List ℕ → List ℕ → ℕ → List ℕ → ℕ → Type 0

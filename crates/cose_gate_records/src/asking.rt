@@ -1,7 +1,7 @@
 //! The questions of a run, for a caller who checks signatures with code of his own.
 ghost use Rattle.std.specs.Prelude.{◌≡◌, ℕ, List};
 ghost use Rattle.cose_gate_core.specs.Terms.{limits_of};
-ghost use Rattle.cose_gate_records.specs.Calls.{Asks, Places, Told, buffers};
+ghost use Rattle.cose_gate_records.specs.Calls.{AsksWithin, Places, AskTold, buffers};
 
 use crate::answer::{Answer, no_limits};
 use crate::asker::Asker;
@@ -21,7 +21,7 @@ fn ask_within(
     lines: &mut [u8],
 ) -> Answer
     ensures { (written : List ℕ) × (status : ℕ)
-        × Told (limits_of run.entry.terms) run.entry.aad.now input.now
+        × AskTold (limits_of run.entry.terms) run.entry.aad.now input.now
         «lines».new result.lines written status
         × Places written status «questions».old «questions».new result }
 {
@@ -56,7 +56,7 @@ pub fn ask(
     questions: &mut [u8],
     lines: &mut [u8],
 ) -> Answer
-    ensures { Asks choice.nesting choice.layers choice.strict aad.now input.now
+    ensures { AsksWithin choice.nesting choice.layers choice.strict aad.now input.now
         (buffers «questions».old «lines».old) (buffers «questions».new «lines».new) result }
 {
     match choice.terms() {

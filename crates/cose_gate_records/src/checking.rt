@@ -1,7 +1,7 @@
 //! The program's run over buffers.
 ghost use Rattle.std.specs.Prelude.{◌≡◌, ℕ, List};
 ghost use Rattle.cose_gate_core.specs.Terms.{limits_of};
-ghost use Rattle.cose_gate_records.specs.Calls.{Checked, Checks, Places, buffers};
+ghost use Rattle.cose_gate_records.specs.Calls.{CheckTold, Checks, Places, buffers};
 
 use crate::answer::{Answer, no_limits};
 use crate::choice::Choice;
@@ -21,7 +21,7 @@ fn check_within(
     lines: &mut [u8],
 ) -> Answer
     ensures { (written : List ℕ) × (status : ℕ)
-        × Checked (limits_of run.entry.terms) keys.now run.entry.aad.now input.now
+        × CheckTold (limits_of run.entry.terms) keys.now run.entry.aad.now input.now
         «lines».new result.lines written status
         × Places written status «out».old «out».new result }
 {

@@ -1,7 +1,8 @@
 //! The messages whose questions were accepted.
 ghost use Rattle.std.specs.Prelude.{◌≡◌, ℕ, List};
 ghost use Rattle.cose_gate_core.specs.Terms.{limits_of};
-ghost use Rattle.cose_gate_records.specs.Calls.{Passed, PassedDigests, Passes, PassesDigests};
+ghost use Rattle.cose_gate_records.specs.Calls.{PassTold, PassedDigests, PassesWithin};
+ghost use Rattle.cose_gate_records.specs.Calls.{PassesDigests};
 ghost use Rattle.cose_gate_records.specs.Calls.{Places, RanBy, buffers};
 
 use crate::accepted::Accepted;
@@ -48,7 +49,7 @@ fn pass_within(
     lines: &mut [u8],
 ) -> Answer
     ensures { (written : List ℕ) × (status : ℕ)
-        × Passed (limits_of run.entry.terms) accepted.now run.entry.aad.now input.now
+        × PassTold (limits_of run.entry.terms) accepted.now run.entry.aad.now input.now
         «lines».new result.lines written status
         × Places written status «out».old «out».new result }
 {
@@ -76,7 +77,7 @@ pub fn pass(
     out: &mut [u8],
     lines: &mut [u8],
 ) -> Answer
-    ensures { Passes choice.nesting choice.layers choice.strict accepted.now aad.now input.now
+    ensures { PassesWithin choice.nesting choice.layers choice.strict accepted.now aad.now input.now
         (buffers «out».old «lines».old) (buffers «out».new «lines».new) result }
 {
     match choice.terms() {

@@ -16,7 +16,7 @@ use Rattle.cose_gate_core.specs.declared.report.Entry.{Entry}
 use Rattle.cose_gate_records.specs.Digests.{digest_by}
 use Rattle.cose_gate_records.specs.Framing.{framed}
 use Rattle.cose_gate_records.specs.Records.{front_of}
-use Rattle.cose_ruled.specs.Blocks.{Part, Asked, Item, is_ask, by_ruling, about_of, part_by, part_of, IsBlock}
+use Rattle.cose_ruled.specs.Blocks.{Part, AskedSoFar, ItemTerms, is_ask, by_ruling, about_of, part_by, part_of, IsBlock}
 use Rattle.cose_ruled.specs.Told.{about_in, parts_in}
 use Rattle.cose_ruled.specs.declared.told.Told.{Told}
 
@@ -40,7 +40,7 @@ told_part about keys subject front gathered lent covered signature digest same i
 
 -- what was told before, and then this
 pub told_on : (keys : List KeyFields) (before old now : List Part) (p q : Part) → now ≡ old ++ p ∷ [] → p ≡ q
-    → ◌≡◌ {A = Asked} (record { keys = keys; told = before ++ now }) (record { keys = keys; told = (before ++ old) ++ q ∷ [] })
+    → ◌≡◌ {A = AskedSoFar} (record { keys = keys; told = before ++ now }) (record { keys = keys; told = (before ++ old) ++ q ∷ [] })
 told_on keys before old now p q is same =
     ap (λ (z : List Part). record { keys = keys; told = z })
     (ap (λ (z : List Part). before ++ z) is ∙ (sym (append_assoc before old (p ∷ [])) ∙ ap (λ (z : Part). (before ++ old) ++ z ∷ []) same))
@@ -54,14 +54,14 @@ begun_behind before before' log old e is =
 
 pub told_stays : (keys : List KeyFields) (before before' : List (Log Told)) (log : Log Told) (old now : List Part) → before' ≡ before ++ log ∷ []
     → parts_in log ≡ old → now ≡ []
-    → ◌≡◌ {A = Asked} (record { keys = keys; told = flat_map parts_in before' ++ now }) (record { keys = keys; told = flat_map parts_in before ++ old })
+    → ◌≡◌ {A = AskedSoFar} (record { keys = keys; told = flat_map parts_in before' ++ now }) (record { keys = keys; told = flat_map parts_in before ++ old })
 told_stays keys before before' log old now e is none =
     ap (λ (z : List Part). record { keys = keys; told = z })
     (ap (λ (z : List Part). flat_map parts_in before' ++ z) none ∙ (append-nil (flat_map parts_in before') ∙ begun_behind before before' log old e is))
 
 pub item_begins : (keys : List KeyFields) (before before' : List (Log Told)) (log : Log Told) (old : List Part) → before' ≡ before ++ log ∷ []
     → parts_in log ≡ old
-    → ◌≡◌ {A = Item} (record { keys = keys; before = flat_map parts_in before' }) (record { keys = keys; before = flat_map parts_in before ++ old })
+    → ◌≡◌ {A = ItemTerms} (record { keys = keys; before = flat_map parts_in before' }) (record { keys = keys; before = flat_map parts_in before ++ old })
 item_begins keys before before' log old e is =
     ap (λ (z : List Part). record { keys = keys; before = z }) (begun_behind before before' log old e is)
 

@@ -32,7 +32,7 @@ use Rattle.cose_gate_program.specs.declared.telling.Notice.TheVariants as notice
 use Rattle.cose_gate_program.specs.declared.telling.Teller.{Ghosts as Tells}
 use Rattle.cose_gate_program.proofs.Runs.{same_devices, shown, then_flushed}
 use Rattle.cose_gate_program.proofs.Tellings.{folded_then, ran_told, tells_then}
-use Rattle.cose_ruled.specs.Blocks.{Asked, IsBlock, Part, asks, part_of}
+use Rattle.cose_ruled.specs.Blocks.{AskedSoFar, IsBlock, Part, asks, part_of}
 use Rattle.cose_ruled.specs.Running.{IsBlockAt, AreBlocks, Handed, AskedItems, RanAsking, BlockHanded}
 
 -- all of it is a beginning
@@ -93,22 +93,22 @@ sequence_end k at b (j ∷ is) i s =
     omega arith
 
 -- what the judge keeps after more questions
-abbrev pub decided : Asked → Question → Asked
+abbrev pub decided : AskedSoFar → Question → AskedSoFar
 decided s q = record s { told = s.told ++ part_of s.keys q ∷ [] }
 
-abbrev kept : List KeyFields → List Part → Asked
+abbrev kept : List KeyFields → List Part → AskedSoFar
 kept keys told = record { keys = keys; told = told }
 
-decided_all : (s : Asked) (qs : List Question) → folded_over decided s qs ≡ kept s.keys (s.told ++ map (part_of s.keys) qs)
+decided_all : (s : AskedSoFar) (qs : List Question) → folded_over decided s qs ≡ kept s.keys (s.told ++ map (part_of s.keys) qs)
 decided_all s [] = ap (kept s.keys) (sym (append-nil s.told))
 decided_all s (q ∷ qs) = decided_all (decided s q) qs ∙ ap (kept s.keys) (append_assoc s.told (part_of s.keys q ∷ []) (map (part_of s.keys) qs))
 
 -- what the gate goes by, if its report keeps the last entry
-abbrev pub rules : Bounds → List KeyFields → List ℕ → Rules Asked Entry
+abbrev pub rules : Bounds → List KeyFields → List ℕ → Rules AskedSoFar Entry
 rules limits keys aad = record { limits = limits; decided = decided; folded = λ _ e. e; allows = asks keys; aad = aad }
 
 -- what is seen of it, if its output goes nowhere
-abbrev pub sight : Asked → Entry → ℕ → Option (List ℕ) → GateState Asked Entry
+abbrev pub sight : AskedSoFar → Entry → ℕ → Option (List ℕ) → GateState AskedSoFar Entry
 sight asked last offset left = record { told = asked; state = last; written = None; offset = offset; left = left }
 
 -- what is seen of a reader, and how often a writer has failed
@@ -116,17 +116,17 @@ abbrev devices : {W F : Type 0} → Writes W F → Option (List ℕ) → ℕ →
 devices w left n out = record { left = left; written = None; read_failures = n; write_failures = w.failed out }
 
 module _ (limits : Bounds) (keys : List KeyFields) (aad : List ℕ) where
-  abbrev by : Rules Asked Entry
+  abbrev by : Rules AskedSoFar Entry
   by = rules limits keys aad
 
   -- the same with the keys that the judge holds
-  pub goes_on : (ks : List KeyFields) (counts : Counts) (old new : GateState Asked Entry) (r : Result (Option Counts) (GateFault InputFault)) → ks ≡ keys
+  pub goes_on : (ks : List KeyFields) (counts : Counts) (old new : GateState AskedSoFar Entry) (r : Result (Option Counts) (GateFault InputFault)) → ks ≡ keys
       → GoesOn is_end (rules limits ks aad) counts old new r → GoesOn is_end by counts old new r
   goes_on ks counts old new r e g = subst (λ (z : List KeyFields). GoesOn is_end (rules limits z aad) counts old new r) e g
 
   -- how far it has come: these steps were made, and their blocks were written and their items told
-  pub record Come {W F T : Type 0} (token : Option TermsFields) (w : Writes W F) (t : Tells T) (left : Option (List ℕ)) (now : GateState Asked Entry) (out out' : W) (teller teller' : T) (passed refused : ℕ) : Type 0 where
-    pub first : GateState Asked Entry
+  pub record Come {W F T : Type 0} (token : Option TermsFields) (w : Writes W F) (t : Tells T) (left : Option (List ℕ)) (now : GateState AskedSoFar Entry) (out out' : W) (teller teller' : T) (passed refused : ℕ) : Type 0 where
+    pub first : GateState AskedSoFar Entry
     pub start : first.offset ≡ 0
     pub nothing : first.written ≡ None
     pub there : first.left ≡ left
@@ -140,14 +140,14 @@ module _ (limits : Bounds) (keys : List KeyFields) (aad : List ℕ) where
 
   module _ {W F T : Type 0} (token : Option TermsFields) (w : Writes W F) (t : Tells T) (left : Option (List ℕ)) where
     -- the judge forgets the questions about an item
-    pub asked_same : (asked asked' : Asked) (last : Entry) (offset : ℕ) (rest : Option (List ℕ)) (out out' : W) (teller teller' : T) (passed refused : ℕ) → asked' ≡ asked
+    pub asked_same : (asked asked' : AskedSoFar) (last : Entry) (offset : ℕ) (rest : Option (List ℕ)) (out out' : W) (teller teller' : T) (passed refused : ℕ) → asked' ≡ asked
         → Come token w t left (sight asked last offset rest) out out' teller teller' passed refused → Come token w t left (sight asked' last offset rest) out out' teller teller' passed refused
     asked_same asked asked' last offset rest out out' teller teller' passed refused e come =
-        subst (λ (z : Asked). Come token w t left (sight z last offset rest) out out' teller teller' passed refused) (sym e) come
+        subst (λ (z : AskedSoFar). Come token w t left (sight z last offset rest) out out' teller teller' passed refused) (sym e) come
 
-    module _ (now : GateState Asked Entry) (out out' : W) (teller teller' : T) (passed refused : ℕ) (come : Come token w t left now out out' teller teller' passed refused) where
+    module _ (now : GateState AskedSoFar Entry) (out out' : W) (teller teller' : T) (passed refused : ℕ) (come : Come token w t left now out out' teller teller' passed refused) where
       -- it is at its end, or the gate stopped
-      pub at_end : (new : GateState Asked Entry) (r : Result Counts (GateFault InputFault)) → RanSteps is_end true by come.first new come.done r
+      pub at_end : (new : GateState AskedSoFar Entry) (r : Result Counts (GateFault InputFault)) → RanSteps is_end true by come.first new come.done r
           → (n n' : ℕ) (rest : Option (List ℕ)) → rest ≡ new.left → new.written ≡ None → n' ≡ n + reader_failures is_end r → w.failed out' ≡ w.failed out' + writer_failures r
           → AskedItems w limits token keys aad (devices w left n out) (devices w rest n' out') out out' r (tells t teller teller')
       at_end new r ran n n' rest same none reads writes = (
@@ -165,7 +165,7 @@ module _ (limits : Bounds) (keys : List KeyFields) (aad : List ℕ) where
       )
 
       -- one step more, and what was told of its questions
-      module _ (new : GateState Asked Entry) (passed' refused' : ℕ) (far : (s : Step) × Reached by come.first new passed' refused' (come.done ++ s ∷ [])) where
+      module _ (new : GateState AskedSoFar Entry) (passed' refused' : ℕ) (far : (s : Step) × Reached by come.first new passed' refused' (come.done ++ s ∷ [])) where
         abbrev asked : List Question
         asked = asked_of by.allows by.aad far.0.finding
 
@@ -174,8 +174,8 @@ module _ (limits : Bounds) (keys : List KeyFields) (aad : List ℕ) where
             let first = come.first in
             let all : new.told ≡ folded_over decided now.told asked =
             far.1.made.told ∙ ap (folded_over decided first.told) (questions_then by come.done far.0)
-            ∙ (folded_append decided first.told (questions_of by.allows by.aad come.done) asked ∙ ap (λ (z : Asked). folded_over decided z asked) (sym come.reached.made.told)) in
-            ap (λ (z : Asked). z.told) (all ∙ decided_all now.told asked) ∙ ap (λ (ks : List KeyFields). now.told.told ++ map (part_of ks) asked) same
+            ∙ (folded_append decided first.told (questions_of by.allows by.aad come.done) asked ∙ ap (λ (z : AskedSoFar). folded_over decided z asked) (sym come.reached.made.told)) in
+            ap (λ (z : AskedSoFar). z.told) (all ∙ decided_all now.told asked) ∙ ap (λ (ks : List KeyFields). now.told.told ++ map (part_of ks) asked) same
 
         last_is : new.state ≡ far.0.entry
         last_is = far.1.made.state ∙ ap (folded_over by.folded come.first.state) (entries_then by come.done far.0) ∙ folded_then by.folded come.first.state (entries_of come.done) far.0.entry

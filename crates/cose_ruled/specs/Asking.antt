@@ -4,7 +4,7 @@ use Rattle.ciborium_ll.specs.declared.log.Log.{Log}
 use Rattle.coset_keys.specs.View.{key_view}
 use Rattle.cose_gate_core.specs.Questions.{Subject}
 use Rattle.cose_gate_records.specs.Kept.{IsHeld as HasHeld, pieces_of as pieces_in}
-use Rattle.cose_ruled.specs.Blocks.{Part, Asked, Item, about_of}
+use Rattle.cose_ruled.specs.Blocks.{Part, AskedSoFar, ItemTerms, about_of}
 use Rattle.cose_ruled.specs.Told.{about_in, parts_in}
 use Rattle.cose_ruled.specs.declared.asker.RuledAsker.{RuledAsker}
 use Rattle.cose_ruled.specs.declared.questions.Questions.{Questions}
@@ -29,10 +29,10 @@ abbrev pub about_item : RuledAsker → List Part
 about_item j = parts_in (log_of j.questions)
 
 -- all that was told, and on what its answers depend
-abbrev pub asked_by : RuledAsker → Asked
+abbrev pub asked_by : RuledAsker → AskedSoFar
 asked_by j = record { keys = map key_view j.keys.now; told = before j ++ about_item j }
 
-abbrev pub item_of : RuledAsker → Item
+abbrev pub item_of : RuledAsker → ItemTerms
 item_of j = record { keys = map key_view j.keys.now; before = before j }
 
 -- a question about this subject is held, with these covered bytes

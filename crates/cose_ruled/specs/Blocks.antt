@@ -139,11 +139,11 @@ IsBlock token e end ps block =
     × (block ≡ block_by e end outcome ps)
 
 -- what a judge keeps: the keys, and what was told of all questions so far
-pub record Asked : Type 0 where
+pub record AskedSoFar : Type 0 where
   pub keys : List KeyFields
   pub told : List Part
 
 -- on what its answers depend: the keys; and what was told before the item at hand
-pub record Item : Type 0 where
+pub record ItemTerms : Type 0 where
   pub keys : List KeyFields
   pub before : List Part

@@ -54,11 +54,11 @@ ruling_by id (Ok s) = ask s id
 ruling_by id (Err r) = refuse r
 
 -- the covered bytes were gathered, if it is asked about
-abbrev pub IsGathered : Result Scheme Refusal → List ℕ → List ℕ → Type 0
-IsGathered (Ok s) gathered covered = gathered ≡ covered
-IsGathered (Err r) gathered covered = Unit {0}
+abbrev pub IsFed : Result Scheme Refusal → List ℕ → List ℕ → Type 0
+IsFed (Ok s) gathered covered = gathered ≡ covered
+IsFed (Err r) gathered covered = Unit {0}
 
 -- a judge holds a question: the ruling is that on the subject, and these covered bytes were fed
 abbrev pub IsHeld : {V : Type 0} → RuledJudge V → Subject → List ℕ → Type 0
 IsHeld j s covered = (ruling_by j.id.items j.asked ≡ ruled (who_of j).keys s)
-    × IsGathered j.asked j.covered.items covered
+    × IsFed j.asked j.covered.items covered

@@ -3,7 +3,7 @@ ghost use Rattle.std.specs.Prelude.{◌≡◌, List, [], ◌++◌, IfOk, map, op
 ghost use Rattle.coset_keys.specs.View.{key_view};
 ghost use Rattle.cose_rules.specs.TokenView.{terms_view};
 ghost use Rattle.cose_ruled.specs.Asking.{IsHeld, asked_by, item_of, pieces_of};
-ghost use Rattle.cose_ruled.specs.Blocks.{Asked, IsBlock, Item, Part, asks, part_of};
+ghost use Rattle.cose_ruled.specs.Blocks.{AskedSoFar, IsBlock, ItemTerms, Part, asks, part_of};
 
 use crate::about::about_text;
 use crate::questions::Questions;
@@ -82,9 +82,9 @@ impl Judge for RuledAsker<'_> {
     ghost use Rattle.cose_gate_core.specs.Lent.{subject_of};
     ghost use Rattle.cose_gate_core.specs.Questions.{Subject};
 
-    ghost Who = { Item };
+    ghost Who = { ItemTerms };
 
-    ghost Told = { Asked };
+    ghost Told = { AskedSoFar };
 
     ghost who = { item_of };
 

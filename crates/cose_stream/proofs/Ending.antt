@@ -13,7 +13,7 @@ use Rattle.cose_gate.specs.GateFault.TheVariants as gating
 use Rattle.coset_labels.specs.Limits.{nesting, layers}
 use Rattle.cose_gate.specs.Questions.{Question}
 use Rattle.cose_gate.specs.Reading.{IfKnown}
-use Rattle.cose_gate.specs.Streaming.{CopiedBy, CopiedPart, Tells, IsLongFor, Unstreamed, UnstreamedBy, WritesAll, Why, damaged, untagged, tagged, shape, without_payload, without_length}
+use Rattle.cose_gate.specs.Streaming.{CopiedBy, CopiedPart, TellsFault, IsLongFor, Unstreamed, UnstreamedBy, WritesAll, Why, damaged, untagged, tagged, shape, without_payload, without_length}
 use Rattle.cose_gate.specs.Faults.{fault_of}
 use Rattle.cose_gate.specs.declared.fault.StreamFault.{StreamFault}
 use Rattle.cose_gate.specs.declared.fault.StreamFault.TheVariants as fault
@@ -21,7 +21,7 @@ use Rattle.cose_gate.proofs.Faults.{Names}
 use Rattle.cose_gate_program.specs.Faults.{is_end}
 use Rattle.ciborium.specs.declared.de.Error.{Error}
 use Rattle.cose_gate.specs.Damage.{end}
-use Rattle.cose_stream.specs.Streams.{Ended, IsAnswered, IsNoEnd, error_of, input_fault, stopped_by}
+use Rattle.cose_stream.specs.Streams.{StreamEnds, IsAnsweredMessage, IsNoEnd, error_of, input_fault, stopped_by}
 use Rattle.cose_stream.specs.declared.stop.StreamStop.{StreamStop}
 use Rattle.cose_stream.specs.declared.stop.StreamStop.TheVariants as stop
 
@@ -34,7 +34,7 @@ ends_so : (D : Type 0) (ended : Bool) → (IsTrue ended → D) → IsTrue (is_en
 ends_so D true f t = f t
 ends_so D false f t = absurd (true≢false (sym t))
 
-told_small : {E : Type 0} (ends : E → Bool) (D : Why → Type 0) (long : Type 0) (e : Error E) → Tells ends D long (fault.Decode e) → Tells is_end D long (fault.Decode (error_of ends e))
+told_small : {E : Type 0} (ends : E → Bool) (D : Why → Type 0) (long : Type 0) (e : Error E) → TellsFault ends D long (fault.Decode e) → TellsFault is_end D long (fault.Decode (error_of ends e))
 told_small ends D long (de.Io x) t = ends_so (D (damaged end)) (ends x) t
 told_small ends D long (de.Syntax p) t = t
 told_small ends D long (de.Semantic p k) t = t
@@ -50,10 +50,10 @@ part_usually w out out' levels layers' from l n y is c =
     (subst (λ (z : ℕ). CopiedPart (within nesting z false) w out out' from) y (subst (λ (z : ℕ). CopiedPart (within z layers' false) w out out' from) n c))
 
 module _ {W F : Type 0} (allows : Question → Bool) (aad : List ℕ) (w : Writing W F) (out out' : W) where
-  stops_at : {E : Type 0} (ends : E → Bool) (l : Option (List ℕ)) (f : StreamFault E) → CopiedPart usual w out out' l → IfKnown l (λ b. Tells ends (Unstreamed (0 + length b) b) (IsLongFor 4096 0 b) f)
-      → Ended allows aad l w out out' (Err (stopped_by ends f))
+  stops_at : {E : Type 0} (ends : E → Bool) (l : Option (List ℕ)) (f : StreamFault E) → CopiedPart usual w out out' l → IfKnown l (λ b. TellsFault ends (Unstreamed (0 + length b) b) (IsLongFor 4096 0 b) f)
+      → StreamEnds allows aad l w out out' (Err (stopped_by ends f))
   stops_at ends l (fault.Decode e) p k = (
-    known_as l _ _ (λ b t. subst (λ (n : ℕ). Tells is_end (Unstreamed n b) (IsLongFor 4096 0 b) (fault.Decode (error_of ends e))) (zero-add (length b)) (told_small ends (Unstreamed (0 + length b) b) (IsLongFor 4096 0 b) e t)) k,
+    known_as l _ _ (λ b t. subst (λ (n : ℕ). TellsFault is_end (Unstreamed n b) (IsLongFor 4096 0 b) (fault.Decode (error_of ends e))) (zero-add (length b)) (told_small ends (Unstreamed (0 + length b) b) (IsLongFor 4096 0 b) e t)) k,
     p,
   )
   stops_at ends l fault.NotTagged p k = (known_as l _ _ (λ b t. (untagged, refl, subst (λ (n : ℕ). Unstreamed n b untagged) (zero-add (length b)) t)) k, p, tt)
@@ -64,14 +64,14 @@ module _ {W F : Type 0} (allows : Question → Bool) (aad : List ℕ) (w : Writi
   stops_at ends l fault.Memory p k = p
 
   pub stops : {E : Type 0} (ends : E → Bool) (levels layers' : ℕ) (from l : Option (List ℕ)) (o : ℕ) (f : StreamFault E) → levels ≡ nesting → layers' ≡ layers → from ≡ l → o ≡ 0
-      → Names ends (UnstreamedBy (within levels layers' false)) 4096 from o f → CopiedPart (within levels layers' false) w out out' from → Ended allows aad l w out out' (Err (stopped_by ends f))
+      → Names ends (UnstreamedBy (within levels layers' false)) 4096 from o f → CopiedPart (within levels layers' false) w out out' from → StreamEnds allows aad l w out out' (Err (stopped_by ends f))
   stops ends levels layers' from l o f n y is start by part =
       let usually = subst (λ (z : ℕ). Names ends (UnstreamedBy (within nesting z false)) 4096 from o f) y (subst (λ (z : ℕ). Names ends (UnstreamedBy (within z layers' false)) 4096 from o f) n by) in
       let whole = subst (λ (z : Option (List ℕ)). Names ends Unstreamed 4096 z o f) is usually in
       stops_at ends l f (part_usually w out out' levels layers' from l n y is part) (subst (λ (z : ℕ). Names ends Unstreamed 4096 l z f) start whole).1
 
   -- the input couldn't be read on after a message
-  pub reads_no_more : (l : Option (List ℕ)) (at : ℕ) (f : StreamStop) → IfKnown l (λ b. at ≤ length b) → CopiedPart usual w out out' l → IsNoEnd at f → Ended allows aad l w out out' (Err f)
+  pub reads_no_more : (l : Option (List ℕ)) (at : ℕ) (f : StreamStop) → IfKnown l (λ b. at ≤ length b) → CopiedPart usual w out out' l → IsNoEnd at f → StreamEnds allows aad l w out out' (Err f)
   reads_no_more l at (stop.Stopped (gating.Decode (de.Io e))) k c none = (known_as l _ _ (λ b p. λ ended. absurd (true≢false (sym ended ∙ none))) k, c)
   reads_no_more l at (stop.Stopped (gating.Decode de.TooLong)) k c none = (known_as l _ _ (λ b p. omega (arith, p, none)) k, c)
   reads_no_more l at (stop.Stopped (gating.Decode (de.Syntax p))) k c none = absurd none
@@ -137,7 +137,7 @@ nothing_more l front k = known_as l _ _ (λ b r. r.1 ∙ ap (λ (z : List ℕ). 
 pub record Taken (allows : Question → Bool) (aad : List ℕ) (answer : Bool) (C : List ℕ → Type 0) (l l' : Option (List ℕ)) (at : ℕ) : Type 0 where
   pub payload : List ℕ
   pub front : List ℕ
-  pub answered : IsAnswered allows aad answer payload front
+  pub answered : IsAnsweredMessage allows aad answer payload front
   pub copied : C payload
   pub left : Consumes l l' front
   pub within : IfKnown l (λ b. at ≤ length b)

@@ -6,15 +6,15 @@ use Rattle.cose_stream.specs.declared.under.Under.{Under}
 -- one step, and what came of it: what has this name; whether a new file of this name was made, or
 -- why not; whether what was written to a file, if that is known, is on the disk; whether a file was
 -- renamed; whether one was removed
-pub data Step : Type 0 where
-  saw : (name : List ℕ) → (under : Under) → Step
-  made : (name : List ℕ) → (fault : Option NotMade) → Step
-  synced : (written : Option (List ℕ)) → (is_done : Bool) → Step
-  renamed : (from to : List ℕ) → (is_done : Bool) → Step
-  removed : (name : List ℕ) → (is_done : Bool) → Step
+pub data FolderStep : Type 0 where
+  saw : (name : List ℕ) → (under : Under) → FolderStep
+  made : (name : List ℕ) → (fault : Option NotMade) → FolderStep
+  synced : (written : Option (List ℕ)) → (is_done : Bool) → FolderStep
+  renamed : (from to : List ℕ) → (is_done : Bool) → FolderStep
+  removed : (name : List ℕ) → (is_done : Bool) → FolderStep
 
 -- these steps were done, if that is known
-abbrev pub Does : Option (List Step) → Option (List Step) → List Step → Type 0
+abbrev pub Does : Option (List FolderStep) → Option (List FolderStep) → List FolderStep → Type 0
 Does old new steps = new ≡ option_map (λ xs. xs ++ steps) old
 
 -- why no file was made, if none was

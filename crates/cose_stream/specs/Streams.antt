@@ -15,7 +15,7 @@ use Rattle.cose_gate.specs.Questions.{Question, MessageFields, questions, payloa
 use Rattle.cose_gate.specs.ReadError.TheVariants as de
 use Rattle.cose_gate.specs.Reading.{IfKnown}
 use Rattle.cose_gate.specs.Stated.{IsSingle, Stated}
-use Rattle.cose_gate.specs.Streaming.{CopiedPart, Tells, IsLongFor, Unstreamed, Why, untagged, tagged, shape, without_payload, without_length}
+use Rattle.cose_gate.specs.Streaming.{CopiedPart, TellsFault, IsLongFor, Unstreamed, Why, untagged, tagged, shape, without_payload, without_length}
 use Rattle.cose_gate.specs.Tree.{Tree}
 use Rattle.cose_gate.specs.declared.fault.StreamFault.{StreamFault}
 use Rattle.cose_gate.specs.declared.fault.StreamFault.TheVariants as fault
@@ -54,7 +54,7 @@ stopped_by ends fault.Unsized = stop.Refused refusal.Unsized
 
 -- the bytes are one message that states its payload's length in front, this is its payload, and
 -- this the answer to its question
-pub record IsAnswered (allows : Question → Bool) (aad : List ℕ) (answer : Bool)
+pub record IsAnsweredMessage (allows : Question → Bool) (aad : List ℕ) (answer : Bool)
     (payload b : List ℕ) : Type 0 where
   pub item : Tree
   pub message : MessageFields
@@ -67,10 +67,10 @@ pub record IsAnswered (allows : Question → Bool) (aad : List ℕ) (answer : Bo
   pub is_answer : answer ≡ is_none (first_no allows (questions message aad))
 
 -- the bytes begin with such a message, and Q holds of what is after it
-abbrev pub Begins : (Question → Bool) → List ℕ → Bool → Option (List ℕ) → (List ℕ → Type 0)
+abbrev pub BeginsWithMessage : (Question → Bool) → List ℕ → Bool → Option (List ℕ) → (List ℕ → Type 0)
     → Type 0
-Begins allows aad answer left Q =
-    (payload front : List ℕ) × IsAnswered allows aad answer payload front
+BeginsWithMessage allows aad answer left Q =
+    (payload front : List ℕ) × IsAnsweredMessage allows aad answer payload front
     × IfKnown left (λ b. (rest : List ℕ) × (b ≡ front ++ rest) × Q rest)
 
 -- why the bytes are refused that are no such message
@@ -83,10 +83,10 @@ IsWhy refusal.Unsized why = why ≡ without_length
 IsWhy refusal.Judged why = ⊥
 IsWhy refusal.ExtraneousData why = ⊥
 
-abbrev pub IsRefused : (Question → Bool) → List ℕ → Option (List ℕ) → StreamRefusal → Type 0
-IsRefused allows aad left refusal.Judged = Begins allows aad false left (λ rest. Unit {0})
-IsRefused allows aad left refusal.ExtraneousData = Begins allows aad true left (λ rest. rest ≢ [])
-IsRefused allows aad left why =
+abbrev pub IsRefusedFor : (Question → Bool) → List ℕ → Option (List ℕ) → StreamRefusal → Type 0
+IsRefusedFor allows aad left refusal.Judged = BeginsWithMessage allows aad false left (λ rest. Unit {0})
+IsRefusedFor allows aad left refusal.ExtraneousData = BeginsWithMessage allows aad true left (λ rest. rest ≢ [])
+IsRefusedFor allows aad left why =
     IfKnown left (λ b. (w : Why) × IsWhy why w × Unstreamed (length b) b w)
 
 -- P holds of a refusal after the whole payload was written: only then it is known what the judge
@@ -100,25 +100,25 @@ IfWhole why P = Unit {0}
 -- is yes, and its payload was written and is not held back; or what is said of the input is true,
 -- and nothing was written but a beginning of the payload; the output hasn't failed if the judge was
 -- heard. If it failed, the last call may have been a flush, which changes nothing that was written.
-abbrev pub Ended : {W F : Type 0} → (Question → Bool) → List ℕ → Option (List ℕ) → Writing W F → W → W → Result (Unit {0}) StreamStop → Type 0
-Ended allows aad left w out out' (Ok u) =
-    (payload front : List ℕ) × IsAnswered allows aad true payload front
+abbrev pub StreamEnds : {W F : Type 0} → (Question → Bool) → List ℕ → Option (List ℕ) → Writing W F → W → W → Result (Unit {0}) StreamStop → Type 0
+StreamEnds allows aad left w out out' (Ok u) =
+    (payload front : List ℕ) × IsAnsweredMessage allows aad true payload front
     × IfKnown left (λ b. b ≡ front)
     × (w.failed out' ≡ w.failed out) × Appends (w.written out) (w.written out') payload
     × (w.held out' ≡ [])
-Ended allows aad left w out out' (Err (stop.NotBegun why)) = ⊥
-Ended allows aad left w out out' (Err (stop.NoFile why)) = ⊥
-Ended allows aad left w out out' (Err (stop.Refused why)) =
-    IsRefused allows aad left why × CopiedPart usual w out out' left
+StreamEnds allows aad left w out out' (Err (stop.NotBegun why)) = ⊥
+StreamEnds allows aad left w out out' (Err (stop.NoFile why)) = ⊥
+StreamEnds allows aad left w out out' (Err (stop.Refused why)) =
+    IsRefusedFor allows aad left why × CopiedPart usual w out out' left
     × IfWhole why (w.failed out' ≡ w.failed out)
-Ended allows aad left w out out' (Err (stop.Stopped (gating.Decode e))) =
-    IfKnown left (λ b. Tells is_end (Unstreamed (length b) b) (IsLongFor 4096 0 b) (fault.Decode e))
+StreamEnds allows aad left w out out' (Err (stop.Stopped (gating.Decode e))) =
+    IfKnown left (λ b. TellsFault is_end (Unstreamed (length b) b) (IsLongFor 4096 0 b) (fault.Decode e))
     × CopiedPart usual w out out' left
-Ended {W = W} allows aad left w out out' (Err (stop.Stopped gating.Write)) =
+StreamEnds {W = W} allows aad left w out out' (Err (stop.Stopped gating.Write)) =
     (w.failed out' ≡ w.failed out + 1)
     × ((before : W) × CopiedPart usual w out before left
     × Keeps (w.written before) (w.written out'))
-Ended allows aad left w out out' (Err (stop.Stopped gating.Memory)) =
+StreamEnds allows aad left w out out' (Err (stop.Stopped gating.Memory)) =
     CopiedPart usual w out out' left
 
 -- how often the input has failed after this end, if it had so often before
@@ -135,7 +135,7 @@ pub data Streams {R E W F : Type 0} (r : Reading R E) (w : Writing W F)
       → new ≡ old → out' ≡ out → Streams r w keys aad old new out out' result
   begun : (bytes d : List ℕ) (ks : List KeyFields) → keys ≡ Some bytes
       → HasItem HasKeySet bytes ks → aad_of aad ≡ Some d
-      → Ended (says_yes ks) d (r.left old) w out out' result
+      → StreamEnds (says_yes ks) d (r.left old) w out out' result
       → r.failed new ≡ failures_after result (r.failed old)
       → Streams r w keys aad old new out out' result
 

@@ -1,6 +1,7 @@
 //! The folder that a payload is put into.
 ghost use Rattle.std.specs.Prelude.{◌≡◌, ◌∷◌, [], List, IfOk};
-ghost use Rattle.cose_stream.specs.Folder.{Step, saw, made, synced, renamed, removed, Does, IsEmpty, fault_of};
+ghost use Rattle.cose_stream.specs.Folder.{FolderStep, saw, made, synced, renamed, removed, Does};
+ghost use Rattle.cose_stream.specs.Folder.{IsEmpty, fault_of};
 ghost use Rattle.std.specs.declared.option.Option.{Option};
 
 use crate::under::{NotMade, Under};
@@ -16,7 +17,7 @@ pub trait Folder {
     type File: Write + Drop;
 
     /// What was done.
-    ghost done: { Self → Option (List Step) };
+    ghost done: { Self → Option (List FolderStep) };
 
     /// What is there under this name; a link is not followed.
     fn look(&mut self, name: &str) -> Under

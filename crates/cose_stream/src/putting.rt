@@ -1,7 +1,9 @@
 //! The file of a payload: a part that only this run has, until its message is checked.
-ghost use Rattle.std.specs.Prelude.{◌≡◌, ◌<◌, ◌+◌, ◌%◌, ◌∷◌, ◌++◌, [], List, ℕ, Err, None, IfErr, IfOk, option_copied, string_bytes};
-ghost use Rattle.cose_stream.specs.Folder.{Step, Does, IsEmpty, made};
-ghost use Rattle.cose_stream.specs.Putting.{Keeps, NoPart, are_there, part_name, Fills, StreamsInto, put_end, refusal_of};
+ghost use Rattle.std.specs.Prelude.{◌≡◌, ◌<◌, ◌+◌, ◌%◌, ◌∷◌, ◌++◌, [], List, ℕ, Err, None, IfErr};
+ghost use Rattle.std.specs.Prelude.{IfOk, option_copied, string_bytes};
+ghost use Rattle.cose_stream.specs.Folder.{FolderStep, Does, IsEmpty, made};
+ghost use Rattle.cose_stream.specs.Putting.{KeepsPart, NoPart, are_there, part_name, FillsFile};
+ghost use Rattle.cose_stream.specs.Putting.{StreamsInto, put_end, refusal_of};
 
 use crate::folder::Folder;
 use crate::stop::StreamStop;
@@ -105,7 +107,7 @@ fn make<F: Folder>(alloc: Global, folder: &mut F, name: &str) -> Result<Part<F::
     ensures made { IfOk result (λ part. Does (F.done folder.old) (F.done folder.new)
         (are_there name.now part.number ++ made (part_name name.now part.number) None ∷ [])) }
     ensures empty { IfOk result (λ part. IsEmpty (F.File.written part.file)) }
-    ensures err { IfErr result (λ why. (steps : List Step) × (NoPart name.now steps why
+    ensures err { IfErr result (λ why. (steps : List FolderStep) × (NoPart name.now steps why
         × Does (F.done folder.old) (F.done folder.new) steps)) }
 {
     for number in 0..PARTS {
@@ -181,7 +183,7 @@ fn fill<R: Read, F: Folder>(
     name: &str,
     part: Part<F::File>,
 ) -> StreamEnd
-    ensures ran { Fills R.Read F.File.Write (option_copied terms.entry.keys)
+    ensures ran { FillsFile R.Read F.File.Write (option_copied terms.entry.keys)
         (option_copied terms.entry.aad) name.now (string_bytes part.name) input.old input.new
         part.file (F.done folder.old) (F.done folder.new) result.end }
     ensures others { result.others ≡ part.number }
@@ -203,7 +205,7 @@ fn fill<R: Read, F: Folder>(
 /// Puts the part into the place of `name` after a yes, and else removes it, and says whether it is
 /// in its place.
 fn keep<F: Folder>(folder: &mut F, file: F::File, part: &str, name: &str, yes: bool) -> bool
-    ensures { Keeps yes result part.now name.now (F.File.written file)
+    ensures { KeepsPart yes result part.now name.now (F.File.written file)
         (F.done folder.old) (F.done folder.new) }
 {
     if !yes {

@@ -2,7 +2,7 @@
 ghost use Rattle.std.specs.Prelude.{◌≡◌, None, option_copied};
 ghost use Rattle.std.specs.Prelude.{Err, IfErr, IfOk, OnOk};
 ghost use Rattle.ciborium_ll.specs.Views.{left_of, offset_of, reader_of, waiting_of};
-ghost use Rattle.cose_stream.specs.Streams.{Ended, IsEnd, IsNoEnd, Streams, failures_after};
+ghost use Rattle.cose_stream.specs.Streams.{StreamEnds, IsEnd, IsNoEnd, Streams, failures_after};
 
 use crate::stop::{StreamRefusal, StreamStop, stopped_by};
 use ciborium_ll::{Decoder, Error, Read, Write};
@@ -61,7 +61,7 @@ fn check<R: Read, J: Judge, W: Write>(
     input: &mut R,
     out: &mut W,
 ) -> Result<(), StreamStop>
-    ensures ended { Ended (J.yes (J.who judge.old)) aad.now (R.left input.old) W.Write out.old
+    ensures ended { StreamEnds (J.yes (J.who judge.old)) aad.now (R.left input.old) W.Write out.old
         out.new result }
     ensures failed { R.failed input.new ≡ failures_after result (R.failed input.old) }
     ensures kept { R.handle input.new ≡ R.handle input.old }

@@ -2,7 +2,7 @@
 ghost use Rattle.std.specs.Prelude.{◌≡◌, Err, true, option_copied};
 ghost use Rattle.cose_stream.specs.declared.stop.StreamStop.TheVariants as stop;
 ghost use Rattle.cose_gate_program.specs.Writing.{Wrote};
-ghost use Rattle.cose_gate_command.specs.RunLines.{Adds};
+ghost use Rattle.cose_gate_command.specs.RunLines.{AddsReasons};
 ghost use Rattle.cose_stream.specs.Lines as spec;
 ghost use Rattle.cose_stream.specs.Lines.{SaysEnd};
 
@@ -111,7 +111,7 @@ fn say_why<E: Write>(
     teller: EndTeller<'_>,
     err: &mut E,
 )
-    ensures { Adds E.Write true err.old err.new }
+    ensures { AddsReasons E.Write true err.old err.new }
 {
     match end {
         Ok(()) => {}
@@ -127,7 +127,7 @@ fn say_why<E: Write>(
 
 /// Says that parts of other runs are there, if they are.
 fn say_others<E: Write>(others: u8, err: &mut E)
-    ensures { Adds E.Write true err.old err.new }
+    ensures { AddsReasons E.Write true err.old err.new }
 {
     write_more(if 0 < others { OTHERS } else { "" }, "", err);
 }

@@ -1,11 +1,11 @@
 use Rattle.std.proofs.Common.{inr, refl}
 use Rattle.cose_gate_core.specs.Terms.{limits_of}
-use Rattle.cose_gate_records.specs.Calls.{Checked}
+use Rattle.cose_gate_records.specs.Calls.{CheckTold}
 use Rattle.cose_gate_records.proofs.Runs.{answers}
 use Rattle.cose_gate_records.proofs.checking.check.Goals as goal
 
 pub returns-in-Some : goal.returns-in-Some
-returns-in-Some c = answers (limits_of c.in-Some.terms) _ _ _ (λ limits written status. Checked limits c.args.keys.now c.args.aad.now c.args.input.now c.check_within.new.lines c.check_within.result.lines written status)
+returns-in-Some c = answers (limits_of c.in-Some.terms) _ _ _ (λ limits written status. CheckTold limits c.args.keys.now c.args.aad.now c.args.input.now c.check_within.new.lines c.check_within.result.lines written status)
     _ _ _ c.in-Some.ensures c.check_within.ensures
 
 pub returns-in-None : goal.returns-in-None

@@ -1,12 +1,12 @@
 use Rattle.std.proofs.Common.{inr, refl}
 use Rattle.cose_gate_core.specs.Terms.{limits_of}
-use Rattle.cose_gate_records.specs.Calls.{Passed}
+use Rattle.cose_gate_records.specs.Calls.{PassTold}
 use Rattle.cose_gate_records.proofs.Runs.{answers}
 use Rattle.cose_gate_records.proofs.passing.pass.Goals as goal
 
 pub returns-in-Some : goal.returns-in-Some
 returns-in-Some c = answers (limits_of c.in-Some.terms) _ _ _
-    (λ limits written status. Passed limits c.args.accepted.now c.args.aad.now c.args.input.now c.pass_within.new.lines c.pass_within.result.lines written status)
+    (λ limits written status. PassTold limits c.args.accepted.now c.args.aad.now c.args.input.now c.pass_within.new.lines c.pass_within.result.lines written status)
     _ _ _ c.in-Some.ensures c.pass_within.ensures
 
 pub returns-in-None : goal.returns-in-None

@@ -3,7 +3,7 @@ use Rattle.std.proofs.KnownBytes.{Appends-nil}
 use Rattle.cose_gate_core.proofs.InOrder.{err_is}
 use Rattle.cose_gate_core.proofs.Reach.{reached_start}
 use Rattle.cose_gate_program.proofs.Runs.{no_title}
-use Rattle.cose_ruled.specs.Blocks.{Asked, Item}
+use Rattle.cose_ruled.specs.Blocks.{AskedSoFar, ItemTerms}
 use Rattle.cose_ruled.proofs.Runs.{asked_same, at_end, come_next, goes_on, not_handed}
 use Rattle.cose_ruled.proofs.running.ask_items.Goals as goal
 
@@ -11,7 +11,7 @@ pub items-init : goal.items-init
 items-init g c =
     let reader = c.from-decoder.ensures.0 in
     record {
-      who = ap (λ (z : Item). z.keys) c.new-asker.ensures.item;
+      who = ap (λ (z : ItemTerms). z.keys) c.new-asker.ensures.item;
       reader = ap (λ z. g.R.Read.failed z.reader.now) reader;
       name = refl;
       kept = ap (λ z. g.R.Read.handle z.reader.now) reader;
@@ -39,12 +39,12 @@ items-preserved g c =
     let inv = c.items.invariant in
     let next = c.in_ok-next.ensures in
     let more = rw c.in-Some.is at next.more in
-    let who = ap (λ (z : Item). z.keys) c.next_item.ensures.item ∙ inv.who in
-    let here = ap (λ (z : Item). z.before) (next.who ∙ c.next_item.ensures.item) ∙ ap (λ (z : Asked). z.told) (sym c.next_item.ensures.told) in
+    let who = ap (λ (z : ItemTerms). z.keys) c.next_item.ensures.item ∙ inv.who in
+    let here = ap (λ (z : ItemTerms). z.before) (next.who ∙ c.next_item.ensures.item) ∙ ap (λ (z : AskedSoFar). z.told) (sym c.next_item.ensures.told) in
     let come = asked_same _ _ _ _ g.W.Write g.T.Teller _ _ _ _ _ _ _ _ _ _ _ _ c.next_item.ensures.told inv.come in
     let far = goes_on _ _ _ _ _ _ _ (Ok (Some c.in-Some.next)) who (rw c.in-Some.is at next.ran) true come.first come.done come.reached in
     record {
-      who = ap (λ (z : Item). z.keys) next.who ∙ who;
+      who = ap (λ (z : ItemTerms). z.keys) next.who ∙ who;
       reader = search rules;
       name = ap (λ (z : List ℕ). get_or z 0 0) next.kept ∙ inv.name;
       kept = ap (λ (z : List ℕ). drop 1 z) next.kept ∙ inv.kept;
@@ -62,7 +62,7 @@ pub returns-in_err-next-clause-ran : goal.returns-in_err-next-clause-ran
 returns-in_err-next-clause-ran g c =
     let inv = c.items.invariant in
     let next = c.in_err-next.ensures in
-    let who = ap (λ (z : Item). z.keys) c.next_item.ensures.item ∙ inv.who in
+    let who = ap (λ (z : ItemTerms). z.keys) c.next_item.ensures.item ∙ inv.who in
     let come = asked_same _ _ _ _ g.W.Write g.T.Teller _ _ _ _ _ _ _ _ _ _ _ _ c.next_item.ensures.told inv.come in
     let ran = goes_on _ _ _ _ _ _ _ (Err _) who next.ran true come.first come.done come.reached in
     rw (err_is _ _ c.from_residual.ensures.1)
@@ -73,7 +73,7 @@ pub returns-in_default-clause-ran : goal.returns-in_default-clause-ran
 returns-in_default-clause-ran g c =
     let inv = c.items.invariant in
     let next = c.in_ok-next.ensures in
-    let who = ap (λ (z : Item). z.keys) c.next_item.ensures.item ∙ inv.who in
+    let who = ap (λ (z : ItemTerms). z.keys) c.next_item.ensures.item ∙ inv.who in
     let come = asked_same _ _ _ _ g.W.Write g.T.Teller _ _ _ _ _ _ _ _ _ _ _ _ c.next_item.ensures.told inv.come in
     let ran = goes_on _ _ _ _ _ _ _ (Ok None) who (rw c.in_default.is at next.ran) true come.first come.done come.reached in
     at_end _ _ _ _ g.W.Write g.T.Teller _ _ _ _ _ _ _ _ come _ _ ran _ _ _ (search rules ∙ sym (no_title _ _ _ refl next.fresh)) refl (search rules) (search rules)
@@ -85,8 +85,8 @@ returns-in_err-ask_item-clause-ran g c =
     let next = c.in_ok-next.ensures in
     let more = rw c.in-Some.is at next.more in
     let some : 0 < c.in-Some.next.passed + c.in-Some.next.refused = omega (arith, more.1) in
-    let who = ap (λ (z : Item). z.keys) c.next_item.ensures.item ∙ inv.who in
-    let here = ap (λ (z : Item). z.before) (next.who ∙ c.next_item.ensures.item) ∙ ap (λ (z : Asked). z.told) (sym c.next_item.ensures.told) in
+    let who = ap (λ (z : ItemTerms). z.keys) c.next_item.ensures.item ∙ inv.who in
+    let here = ap (λ (z : ItemTerms). z.before) (next.who ∙ c.next_item.ensures.item) ∙ ap (λ (z : AskedSoFar). z.told) (sym c.next_item.ensures.told) in
     let come = asked_same _ _ _ _ g.W.Write g.T.Teller _ _ _ _ _ _ _ _ _ _ _ _ c.next_item.ensures.told inv.come in
     let far = goes_on _ _ _ _ _ _ _ (Ok (Some c.in-Some.next)) who (rw c.in-Some.is at next.ran) true come.first come.done come.reached in
     rw (err_is _ _ c.from_residual-in_err-ask_item.ensures.1)

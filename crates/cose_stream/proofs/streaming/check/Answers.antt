@@ -1,7 +1,7 @@
 use Rattle.std.proofs.Common.{Bool, MutBor, ap, refl, subst}
 use Rattle.std.proofs.KnownBytes.{Keeps-refl}
 use Rattle.std.proofs.lemmas.Result.{err_from_is_err_and}
-use Rattle.cose_stream.specs.Streams.{IsAnswered, IsEnd}
+use Rattle.cose_stream.specs.Streams.{IsAnsweredMessage, IsEnd}
 use Rattle.cose_stream.proofs.Ending.{stops, reads_no_more, all_known, nothing_more, behind, from_start, taken, all_written, part_usually, not_failed, failed_once, failed_then}
 use Rattle.cose_stream.proofs.streaming.check.Goals as goal
 
@@ -16,7 +16,7 @@ returns-then-not-streamed-clause-ended g c =
     (from_start g.R.Read.left _ _ _ (ap (λ (z : MutBor _). z.now) c.from-decoder.ensures.0) c.from-decoder.ensures.2) c.from-decoder.ensures.1 c.in-Ok.ensures.ok in
     let part = part_usually g.W.Write _ _ _ _ _ _ c.default-limits.ensures.0 c.default-limits.ensures.1
     (from_start g.R.Read.left _ _ _ (ap (λ (z : MutBor _). z.now) c.from-decoder.ensures.0) c.from-decoder.ensures.2) c.in-Ok.ensures.part in
-    ((t.payload, t.front, subst (λ (z : Bool). IsAnswered (g.J.Judge.yes (g.J.Judge.who c.args.judge.now)) c.args.aad.now z t.payload t.front) c.if-not-streamed.true t.answered, behind _ _ t.front _ t.left (all_known _)), part, not_failed g.W.Write _ _ _ t.payload c.if-is_err.ensures.value t.copied)
+    ((t.payload, t.front, subst (λ (z : Bool). IsAnsweredMessage (g.J.Judge.yes (g.J.Judge.who c.args.judge.now)) c.args.aad.now z t.payload t.front) c.if-not-streamed.true t.answered, behind _ _ t.front _ t.left (all_known _)), part, not_failed g.W.Write _ _ _ t.payload c.if-is_err.ensures.value t.copied)
 
 pub returns-in_err-has_ended-clause-ended : goal.returns-in_err-has_ended-clause-ended
 returns-in_err-has_ended-clause-ended g c =
@@ -36,7 +36,7 @@ returns-then-not-branch-clause-ended g c =
       (
         t.payload,
         t.front,
-        subst (λ (z : Bool). IsAnswered (g.J.Judge.yes (g.J.Judge.who c.args.judge.now)) c.args.aad.now z t.payload t.front) c.if-not-streamed.false t.answered,
+        subst (λ (z : Bool). IsAnsweredMessage (g.J.Judge.yes (g.J.Judge.who c.args.judge.now)) c.args.aad.now z t.payload t.front) c.if-not-streamed.false t.answered,
         behind _ _ t.front _ t.left (subst (IsEnd _) c.if-not-branch.true c.in_ok-has_ended.ensures.ok),
       ),
       part,
@@ -50,7 +50,7 @@ returns-in-Ok-flush-clause-ended g c =
     let sent = all_written g.W.Write _ _ _ _ t.payload c.if-is_err.ensures.value t.copied c.in-Ok-flush.ensures.same c.in-Ok-flush.ensures.failed in (
       t.payload,
       t.front,
-      subst (λ (z : Bool). IsAnswered (g.J.Judge.yes (g.J.Judge.who c.args.judge.now)) c.args.aad.now z t.payload t.front) c.if-not-streamed.false t.answered,
+      subst (λ (z : Bool). IsAnsweredMessage (g.J.Judge.yes (g.J.Judge.who c.args.judge.now)) c.args.aad.now z t.payload t.front) c.if-not-streamed.false t.answered,
       nothing_more _ t.front (behind _ _ t.front _ t.left (subst (IsEnd _) c.if-not-branch.false c.in_ok-has_ended.ensures.ok)),
       sent.0,
       sent.1,
