@@ -6,7 +6,8 @@ use Rattle.ciborium_ll.specs.declared.hdr.Header.{Header}
 use Rattle.ciborium_ll.proofs.Closings.{split_heads}
 use Rattle.ciborium_ll.proofs.TitleLaws.{not_cut}
 use Rattle.cbor_walk.specs.Grammar.{stated, after, Item, item, Rest, of_stated, Items, no_items, item_more}
-use Rattle.cose_sift.specs.Untagging.{IsWrapper, Wraps, Unwraps, bare, wrapped, Content}
+use Rattle.cose_rules.specs.Untagging.{IsWrapper, Wraps, Unwraps, bare, wrapped}
+use Rattle.cose_sift.specs.Untagging.{Content}
 use Rattle.cbor_walk.specs.Walking.{IsOne}
 use Rattle.cbor_walk.proofs.Going.{regroup}
 
@@ -27,13 +28,17 @@ inside b inner w (item _ title rest h t r e) =
     let s = split_heads title w.title rest inner h w.head t w.is_title (sym e ∙ w.whole) in
     one_rest inner (subst (λ z. Rest (stated 0 1) z) s.rests (subst (λ z. Rest z rest) (wrapper_after w.head w.is) (subst (λ (z : Header). Rest (after z) rest) s.heads r)))
 
-pub one_inside : (b inner : List ℕ) → Wraps b inner → IsOne b → IsOne inner
+one_inside : (b inner : List ℕ) → Wraps b inner → IsOne b → IsOne inner
 one_inside b inner w one = record {
   is = inside b inner w one.is;
   once = λ i behind left h e.
       let f : w.title ++ i ≡ w.title ++ inner = one.once (w.title ++ i) behind left (around w.title i w.head w.is_title w.is h) (append_assoc w.title i behind ∙ ap (λ z. w.title ++ z) e ∙ sym (regroup b w.title inner left w.whole)) ∙ w.whole in
       append_cancel_left w.title i inner f;
 }
+
+pub one_within : (b inner : List ℕ) → Unwraps b inner → IsOne b → IsOne inner
+one_within b inner (bare _ none) one = one
+one_within b inner (wrapped _ x _ w u) one = one_within x inner u (one_inside b x w one)
 
 pub not_empty : (b : List ℕ) → Item b → 0 < length b
 not_empty [] (item _ title rest h t r e) = absurd (not_cut title rest h t (subst IsCut e tt))
