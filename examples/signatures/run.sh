@@ -28,7 +28,7 @@ fail() {
 }
 
 python3 "$here/make.py" . || fail "no messages were made"
-"$ASK" --lines < signed.cbor > lines 2> asked
+"$ASK" --fields < signed.cbor > lines 2> asked
 [ $? -eq 1 ] || fail "cose-ask: another status: $(cat asked)"
 bash "$here/es256.sh" keys < lines > accepted || fail "the check failed"
 "$PASS" accepted < signed.cbor > passed.cbor 2> told
