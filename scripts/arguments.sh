@@ -6,6 +6,38 @@ say_version() {
   echo "$1 $(cat "$top/VERSION")"
 }
 
+# Ends with status 2 as the program does: with its usage, what is wrong with the arguments, if it is known, and how to go on.
+wrong() {
+  printf 'usage: %s\n' "$1" >&2
+  [ -z "$2" ] || printf '  %s\n' "$2" >&2
+  printf '  %s --help has all options\n' "${1%% *}" >&2
+  exit 2
+}
+
+# Ends so if the words after $2 are other arguments than the program with this usage and these options takes. $most is how many other words there
+# are at most, and $first what it says if there is none. It leaves the others in $words. A word with a character that the program would escape is
+# left to the program.
+needs_words() {
+  local usage=$1 options=$2 word
+  shift 2
+  words=()
+  for word in "$@"; do
+    [[ $word == *[!\ -~]* || $word == *[\"\\]* ]] && return
+  done
+  for word in "$@"; do
+    if [[ $word != -* ]]; then
+      words+=("$word")
+    elif [[ " $options " != *" $word "* ]]; then
+      wrong "$usage" "$word: no such option"
+    fi
+  done
+  if [ -n "$first" ] && [ ${#words[@]} -eq 0 ]; then
+    wrong "$usage" "$first"
+  elif [ ${#words[@]} -gt "$most" ]; then
+    wrong "$usage" "${words[most]} is one word too many"
+  fi
+}
+
 # Ends with status 3 if a file can't be read: the program's own line NAME, and then why.
 needs_file() {
   local why

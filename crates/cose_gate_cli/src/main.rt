@@ -13,8 +13,8 @@ mod streaming;
 use crate::streaming::start_stream;
 use ciborium_ll::Io;
 use cose_gate_command::{
-    Content, NotRun, USAGE, ended, page_for, program, read_arguments, read_in_blocks, words_of,
-    write_in_blocks, write_page,
+    Content, GATE, NotRun, USAGE, ended, page_for, program, read_arguments, read_in_blocks,
+    say_wrong, words_of, write_in_blocks, write_page,
 };
 use cose_gate_program::Blocks;
 use std::process::ExitCode;
@@ -43,7 +43,13 @@ it is out of memory.
 ";
 
 fn main(rt: HostRuntime) -> ExitCode {
-    ExitCode::from(ended(start(&rt), USAGE, &mut Io::new(rt.stderr())))
+    let end = start(&rt);
+    let mut err = Io::new(rt.stderr());
+    let status = ended(end, USAGE, &mut err);
+    if let Err(NotRun::Usage) = end {
+        say_wrong(rt.alloc(), None, &GATE, &mut err);
+    }
+    ExitCode::from(status)
 }
 
 /// Runs the program, and returns its status.
