@@ -14,27 +14,27 @@ wrong() {
   exit 2
 }
 
-# Ends so if the words after $2 are other arguments than the program with this usage and these options takes. $most is how many other words there
-# are at most, and $first what it says if there is none. It leaves the others in $words. A word with a character that the program would escape is
+# Ends so if the arguments after $2 aren't those of the program with this usage and these options. $most is how many others than options there
+# are at most, and $first what it says if there is none. It leaves them in $others. An argument with a character that the program would escape is
 # left to the program.
 needs_words() {
   local usage=$1 options=$2 word
   shift 2
-  words=()
+  others=()
   for word in "$@"; do
     [[ $word == *[!\ -~]* || $word == *[\"\\]* ]] && return
   done
   for word in "$@"; do
     if [[ $word != -* ]]; then
-      words+=("$word")
+      others+=("$word")
     elif [[ " $options " != *" $word "* ]]; then
       wrong "$usage" "$word: no such option"
     fi
   done
-  if [ -n "$first" ] && [ ${#words[@]} -eq 0 ]; then
+  if [ -n "$first" ] && [ ${#others[@]} -eq 0 ]; then
     wrong "$usage" "$first"
-  elif [ ${#words[@]} -gt "$most" ]; then
-    wrong "$usage" "${words[most]} is one word too many"
+  elif [ ${#others[@]} -gt "$most" ]; then
+    wrong "$usage" "${others[most]} is one word too many"
   fi
 }
 

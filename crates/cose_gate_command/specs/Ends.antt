@@ -9,7 +9,7 @@ use Rattle.cose_gate_program.specs.Telling.{EndsTold}
 use Rattle.cose_gate_program.specs.Writing.{Wrote}
 use Rattle.coset_labels.specs.Limits.{nesting, layers}
 use Rattle.cose_gate_command.specs.Arguments.{Arguments}
-use Rattle.cose_gate_command.specs.RunLines.{AreIndented, SaysAll}
+use Rattle.cose_gate_command.specs.RunLines.{AreIndented, SaysAll, items_by}
 
 -- the limits if none are chosen, of the gate or of the strict gate
 abbrev pub bounds_by : Bool → Bounds
@@ -25,4 +25,4 @@ EndsBy w None keys fault old new status err err' = (status ≡ 2) × (new ≡ ol
     × AreIndented said × Wrote w err err' (codes "usage: cose-gate KEYS [AADHEX]\n" ++ said)
 EndsBy w (Some a) keys fault old new status err err' =
     EndsTold (bounds_by a.strict) says_yes keys (aad_of a.aad) old new status
-    (SaysAll w a.verbose a.quiet fault keys err err')
+    (SaysAll w a.verbose (items_by a.quiet a.summary) fault keys err err')

@@ -19,7 +19,7 @@ pub const USAGE: &str = "usage: cose-gate KEYS [AADHEX]\n";
 /// The arguments of `cose-gate`.
 pub const GATE: Takes<'static> = Takes {
     program: "cose-gate",
-    options: &["--strict", "--verbose", "--quiet"],
+    options: &["--strict", "--verbose", "--quiet", "--summary"],
     named: &[],
     first: "KEYS is missing: a file with a key set, which cose-key makes",
     most: 2,

@@ -28,12 +28,7 @@ pub struct Takes<'a> {
 
 /// Says what is wrong with arguments that aren't those of a program, if it is seen, and flushes the
 /// writer. Arguments that can't be read are none. Out of memory it may say less.
-pub fn say_wrong<W: Write>(
-    alloc: Global,
-    words: Option<&[String]>,
-    takes: &Takes<'_>,
-    out: &mut W,
-)
+pub fn say_wrong<W: Write>(alloc: Global, words: Option<&[String]>, takes: &Takes<'_>, out: &mut W)
     ensures { AddsReasons W.Write true out.old out.new }
 {
     let mut text = String::new(alloc);
