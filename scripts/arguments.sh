@@ -28,7 +28,10 @@ needs_words() {
     if [[ $word != -* ]]; then
       others+=("$word")
     elif [[ " $options " != *" $word "* ]]; then
-      wrong "$usage" "$word: no such option"
+      case $word in
+        -h | --help | --version) wrong "$usage" "$word is given alone" ;;
+        *) wrong "$usage" "$word: no such option" ;;
+      esac
     fi
   done
   if [ -n "$first" ] && [ ${#others[@]} -eq 0 ]; then

@@ -60,7 +60,7 @@ fn put_wrong<P: fmt::Write>(words: &[String], takes: &Takes<'_>, page: &mut Page
             waiting = word;
         } else if !is_among(word, takes.options) {
             put_word(word, page);
-            page.write_str(": no such option");
+            page.write_str(why_not(word));
             return;
         } else if word == "--need" {
             break;
@@ -74,6 +74,14 @@ fn put_wrong<P: fmt::Write>(words: &[String], takes: &Takes<'_>, page: &mut Page
     } else if others > takes.most {
         put_word(last, page);
         page.write_str(" is one word too many");
+    }
+}
+
+/// What is wrong with an option that isn't one of a run.
+fn why_not(word: &str) -> &'static str {
+    match word {
+        "-h" | "--help" | "--version" => " is given alone",
+        _ => ": no such option",
     }
 }
 

@@ -51,15 +51,17 @@ CBOR, input or output failed, or out of memory.
 ";
 
 fn main(rt: HostRuntime) -> ExitCode {
-    let words = words_of(rt.alloc(), env::args(&rt));
-    let end = match &words {
-        Ok(words) => start(&rt, words.as_slice()),
-        Err(why) => Err(*why),
-    };
+    match words_of(rt.alloc(), env::args(&rt)) {
+        Ok(words) => finish(&rt, start(&rt, words.as_slice()), Some(words.as_slice())),
+        Err(why) => finish(&rt, Err(why), None),
+    }
+}
+
+/// Says why a run with these arguments, if they can be read, didn't come to its end.
+fn finish(rt: &HostRuntime, end: Result<u8, NotRun>, words: Option<&[String]>) -> ExitCode {
     let mut err = Io::new(rt.stderr());
     let status = ended(end, USAGE, &mut err);
     if let Err(NotRun::Usage) = end {
-        let words = words.as_ref().ok().map(|words| words.as_slice());
         say_wrong(rt.alloc(), words, &PASS, &mut err);
     }
     ExitCode::from(status)
