@@ -44,7 +44,7 @@ pub fn say_wrong<W: Write>(alloc: Global, words: Option<&[String]>, takes: &Take
 /// Writes what is wrong with arguments: an option that there isn't, or one without its word, or the
 /// number of other words.
 fn put_wrong<P: fmt::Write>(words: &[String], takes: &Takes<'_>, page: &mut Page<'_, P>) {
-    let mut others = 0;
+    let mut others = 0usize;
     let mut last = "";
     let mut waiting = "";
     for word in words {
@@ -52,8 +52,8 @@ fn put_wrong<P: fmt::Write>(words: &[String], takes: &Takes<'_>, page: &mut Page
         if !waiting.is_empty() {
             waiting = "";
         } else if !is_option(word) {
-            others += 1;
-            if others == takes.most + 1 {
+            others = others.saturating_add(1);
+            if others > takes.most && last.is_empty() {
                 last = word;
             }
         } else if is_among(word, takes.named) {
