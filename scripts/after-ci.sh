@@ -33,32 +33,38 @@ rows() {
 0|||cose-pass --help | cmp - <(../cose-pass --help) && cose-pass -h | cmp - <(../cose-pass --help)
 0|||cose-show --json --help | cmp - <(../cose-show --help) && cose-show -h | cmp - <(../cose-show --help)
 0|||for name in gate ask pass show sift; do cose-$name --version && ../cose-$name --version; done | cmp - <(printf "cose-%s $(cat ../VERSION)\n" {gate,ask,pass,show,sift}{,})
-2|/dev/null|usage: cose-gate [--strict] [--verbose] [--quiet] KEYS [AADHEX] < INPUT > PASSED|cose-gate --strict
-2|/dev/null|usage: cose-gate [--strict] [--verbose] [--quiet] KEYS [AADHEX] < INPUT > PASSED|cose-gate keys.cbor 01 02 < one.cbor
-2|/dev/null|usage: cose-gate [--strict] [--verbose] [--quiet] KEYS [AADHEX] < INPUT > PASSED|cose-gate keys.cbor $'\xff' < one.cbor
-2|/dev/null|usage: cose-gate [--strict] [--verbose] [--quiet] KEYS [AADHEX] < INPUT > PASSED|../cose-gate --strikt keys.cbor
-2|/dev/null|usage: cose-gate [--strict] [--verbose] [--quiet] KEYS [AADHEX] < INPUT > PASSED|cose-gate keys.cbor --strikt < one.cbor
+2|/dev/null|  cose-gate --help has all options|cose-gate --strict
+2|/dev/null|  cose-gate --help has all options|cose-gate keys.cbor 01 02 < one.cbor
+2|/dev/null|  cose-gate --help has all options|cose-gate keys.cbor $'\xff' < one.cbor
+2|/dev/null|  cose-gate --help has all options|../cose-gate --strikt keys.cbor
+2|/dev/null|  cose-gate --help has all options|cose-gate keys.cbor --strikt < one.cbor
 2|/dev/null|usage: cose-gate --stream [--payload FILE] [--verbose] KEYS [AADHEX] < MESSAGE|cose-gate --stream --strict keys.cbor < one.cbor
 2|/dev/null|usage: cose-gate --stream [--payload FILE] [--verbose] KEYS [AADHEX] < MESSAGE|../cose-gate --stream --payload keys.cbor < one.cbor
-2|/dev/null|       cose-ask --keys KEYS [--strict] [AADHEX] [--cwt TERMS]|cose-ask --strikt < one.cbor
-2|/dev/null|       cose-ask --keys KEYS [--strict] [AADHEX] [--cwt TERMS]|cose-ask 01 02 < one.cbor
-2|/dev/null|       cose-ask --keys KEYS [--strict] [AADHEX] [--cwt TERMS]|cose-ask $'\xff' < one.cbor
-2|/dev/null|       cose-ask --keys KEYS [--strict] [AADHEX] [--cwt TERMS]|../cose-ask --strikt
-2|/dev/null|       cose-ask --keys KEYS [--strict] [AADHEX] [--cwt TERMS]|cose-ask --keys < one.cbor
-2|/dev/null|       cose-ask --keys KEYS [--strict] [AADHEX] [--cwt TERMS]|cose-ask --keys keys.cbor --lines 01 < one.cbor
-2|/dev/null|       cose-ask --keys KEYS [--strict] [AADHEX] [--cwt TERMS]|cose-ask --strict --keys keys.cbor < one.cbor
-2|/dev/null|       cose-ask --keys KEYS [--strict] [AADHEX] [--cwt TERMS]|../cose-ask --keys keys.cbor --fields
-2|/dev/null|usage: cose-pass [--digests] [--strict] ACCEPTED [AADHEX]|cose-pass
-2|/dev/null|usage: cose-pass [--digests] [--strict] ACCEPTED [AADHEX]|cose-pass --strikt /dev/null < one.cbor
-2|/dev/null|usage: cose-pass [--digests] [--strict] ACCEPTED [AADHEX]|cose-pass /dev/null $'\xff' < one.cbor
-2|/dev/null|usage: cose-pass [--digests] [--strict] ACCEPTED [AADHEX]|../cose-pass
-2|/dev/null|usage: cose-pass [--digests] [--strict] ACCEPTED [AADHEX]|cose-pass --strict --digests /dev/null < one.cbor
-2|/dev/null|usage: cose-pass [--digests] [--strict] ACCEPTED [AADHEX]|../cose-pass --digests
+2|/dev/null|  cose-ask --help has all options|cose-ask --strikt < one.cbor
+2|/dev/null|  cose-ask --help has all options|cose-ask 01 02 < one.cbor
+2|/dev/null|  cose-ask --help has all options|cose-ask $'\xff' < one.cbor
+2|/dev/null|  cose-ask --help has all options|../cose-ask --strikt
+2|/dev/null|  cose-ask --help has all options|cose-ask --keys < one.cbor
+2|/dev/null|  cose-ask --help has all options|cose-ask --keys keys.cbor --lines 01 < one.cbor
+2|/dev/null|  cose-ask --help has all options|cose-ask --strict --keys keys.cbor < one.cbor
+2|/dev/null|  cose-ask --help has all options|../cose-ask --keys keys.cbor --fields
+2|/dev/null|  cose-pass --help has all options|cose-pass
+2|/dev/null|  cose-pass --help has all options|cose-pass --strikt /dev/null < one.cbor
+2|/dev/null|  cose-pass --help has all options|cose-pass /dev/null $'\xff' < one.cbor
+2|/dev/null|  cose-pass --help has all options|../cose-pass
+2|/dev/null|  cose-pass --help has all options|cose-pass --strict --digests /dev/null < one.cbor
+2|/dev/null|  cose-pass --help has all options|../cose-pass --digests
+# the first line of other arguments, and what is wrong with them; the scripts say what the programs say
+0|||for words in keys.cbor\ 01\ 02 --strikt '--verbose -' '' --stream=1; do for it in cose-gate ../cose-gate; do $it $words 2>&1 < one.cbor; done; done | cmp - <(for said in '02 is one word too many' '--strikt: no such option' '-: no such option' 'KEYS is missing: a file with a key set, which cose-key makes' '--stream=1: no such option'; do printf "usage: cose-gate KEYS [AADHEX]\\n  %s\\n  cose-gate --help has all options\\n" "$said"{,}; done)
+0|||for it in ask pass sift; do for words in '01 02 03' --strikt '--help 01'; do cmp <(cose-$it $words 2>&1 < one.cbor) <(../cose-$it $words 2>&1 < one.cbor) || exit; done; done
+2|/dev/null||cose-gate $'k\e[2J' 01 $'\n02"' < one.cbor 2> $T/said; s=$?; grep -qxF '  \n02\" is one word too many' $T/said || s=1; exit $s
+2|/dev/null||cose-ask $'\xff' 2> $T/said; s=$?; grep -qx "  an argument isn't UTF-8" $T/said || s=1; exit $s
+2|/dev/null||cose-ask --keys 2> $T/said; s=$?; grep -qx '  --keys: no word is after it' $T/said || s=1; exit $s
 0|||cose-sift --help | cmp - <(../cose-sift --help)
-2|/dev/null|usage: cose-sift [--untag] [--max BYTES] < INPUT > SIFTED|cose-sift --max < one.cbor
-2|/dev/null|usage: cose-sift [--untag] [--max BYTES] < INPUT > SIFTED|cose-sift --max 0x10 < one.cbor
-2|/dev/null|usage: cose-sift [--untag] [--max BYTES] < INPUT > SIFTED|../cose-sift --untag --max < one.cbor
-2|/dev/null|  one.cbor: the input is read from standard input, as in < one.cbor|../cose-sift one.cbor
+2|/dev/null|  cose-sift --help has all options|cose-sift --max < one.cbor
+2|/dev/null|  cose-sift --help has all options|cose-sift --max 0x10 < one.cbor
+2|/dev/null|  cose-sift --help has all options|../cose-sift --untag --max < one.cbor
+2|/dev/null|  cose-sift --help has all options|../cose-sift one.cbor
 2|/dev/null|       cose-show --cut SIZE DIR [FILE]|cose-show --strikt < one.cbor
 2|/dev/null|       cose-show --cut SIZE DIR [FILE]|cose-show $'\xff'
 2|/dev/null|       cose-show --cut SIZE DIR [FILE]|../cose-show --strikt
@@ -110,6 +116,7 @@ rows() {
 # more than a block of 64 KiB
 0|$T/many|passed 2000, refused 0|cose-gate keys.cbor 01 < $T/many
 0|||[ "$(cose-gate --quiet keys.cbor 01 < $T/many 2>&1 > /dev/null)" = 'passed 2000, refused 0' ]
+0|||[ "$(cose-gate --summary keys.cbor 01 < mixed.cbor 2>&1 > /dev/null)" = "$(cose-gate keys.cbor 01 < mixed.cbor 2>&1 > /dev/null | tail -n 1)" ]
 0|||cmp <(cose-gate --verbose keys.cbor 01 < mixed.cbor 2>&1 > /dev/null | grep -v '^  ') <(cose-gate keys.cbor 01 < mixed.cbor 2>&1 > /dev/null)
 0||passed 2000, refused 0|cose-ask --lines 01 < $T/many > $T/lines
 0|$T/many|passed 2000, refused 0|cose-pass $T/lines 01 < $T/many

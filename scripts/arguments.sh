@@ -6,6 +6,41 @@ say_version() {
   echo "$1 $(cat "$top/VERSION")"
 }
 
+# Ends with status 2 as the program does: with its usage, what is wrong with the arguments, if it is known, and how to go on.
+wrong() {
+  printf 'usage: %s\n' "$1" >&2
+  [ -z "$2" ] || printf '  %s\n' "$2" >&2
+  printf '  %s --help has all options\n' "${1%% *}" >&2
+  exit 2
+}
+
+# Ends so if the arguments after $2 aren't those of the program with this usage and these options. $most is how many others than options there
+# are at most, and $first what it says if there is none. It leaves them in $others. An argument with a character that the program would escape is
+# left to the program.
+needs_words() {
+  local usage=$1 options=$2 word
+  shift 2
+  others=()
+  for word in "$@"; do
+    [[ $word == *[!\ -~]* || $word == *[\"\\]* ]] && return
+  done
+  for word in "$@"; do
+    if [[ $word != -* ]]; then
+      others+=("$word")
+    elif [[ " $options " != *" $word "* ]]; then
+      case $word in
+        -h | --help | --version) wrong "$usage" "$word is given alone" ;;
+        *) wrong "$usage" "$word: no such option" ;;
+      esac
+    fi
+  done
+  if [ -n "$first" ] && [ ${#others[@]} -eq 0 ]; then
+    wrong "$usage" "$first"
+  elif [ ${#others[@]} -gt "$most" ]; then
+    wrong "$usage" "${others[most]} is one word too many"
+  fi
+}
+
 # Ends with status 3 if a file can't be read: the program's own line NAME, and then why.
 needs_file() {
   local why

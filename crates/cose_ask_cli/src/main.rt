@@ -7,18 +7,31 @@
 
 use ciborium_ll::Io;
 use cose_gate_command::{
-    Content, NotRun, ask, ask_arguments, ended, page_for, read_in_blocks, words_of,
-    write_in_blocks, write_page,
+    Content, NotRun, Takes, ask, ask_arguments, ended, page_for, read_in_blocks, say_wrong,
+    words_of, write_in_blocks, write_page,
 };
 use cose_gate_program::Blocks;
 use std::process::ExitCode;
 use std::{env, fs};
 
 /// The line for other arguments.
-const USAGE: &str = "\
-usage: cose-ask [--strict] [--lines] [--fields] [AADHEX]
-       cose-ask --keys KEYS [--strict] [AADHEX] [--cwt TERMS]
-";
+const USAGE: &str = "usage: cose-ask [AADHEX]\n";
+
+/// Its arguments.
+const ASK: Takes<'static> = Takes {
+    program: "cose-ask",
+    options: &[
+        "--strict",
+        "--lines",
+        "--fields",
+        "--cwt",
+        "--any-aud",
+        "--need",
+    ],
+    named: &["--keys", "--at", "--leeway", "--iss", "--aud"],
+    first: "",
+    most: 1,
+};
 
 /// What `--version` prints.
 const VERSION: &str = "cose-ask 0.8\n";
@@ -57,17 +70,29 @@ output failed, or out of memory.
 ";
 
 fn main(rt: HostRuntime) -> ExitCode {
-    ExitCode::from(ended(start(&rt), USAGE, &mut Io::new(rt.stderr())))
+    match words_of(rt.alloc(), env::args(&rt)) {
+        Ok(words) => finish(&rt, start(&rt, words.as_slice()), Some(words.as_slice())),
+        Err(why) => finish(&rt, Err(why), None),
+    }
+}
+
+/// Says why a run with these arguments, if they can be read, didn't come to its end.
+fn finish(rt: &HostRuntime, end: Result<u8, NotRun>, words: Option<&[String]>) -> ExitCode {
+    let mut err = Io::new(rt.stderr());
+    let status = ended(end, USAGE, &mut err);
+    if let Err(NotRun::Usage) = end {
+        say_wrong(rt.alloc(), words, &ASK, &mut err);
+    }
+    ExitCode::from(status)
 }
 
 /// Runs the program, and returns its status.
-fn start(rt: &HostRuntime) -> Result<u8, NotRun> {
-    let words = words_of(rt.alloc(), env::args(rt))?;
-    if let Some(page) = page_for(words.as_slice(), HELP, VERSION) {
+fn start(rt: &HostRuntime, words: &[String]) -> Result<u8, NotRun> {
+    if let Some(page) = page_for(words, HELP, VERSION) {
         return write_page(page, &mut Io::new(rt.stdout()));
     }
-    let keys = read_keys(rt, words.as_slice())?;
-    run(rt, words.as_slice(), keys)
+    let keys = read_keys(rt, words)?;
+    run(rt, words, keys)
 }
 
 /// What the file KEYS holds, if the arguments name one.

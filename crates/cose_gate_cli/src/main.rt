@@ -1,7 +1,8 @@
-//! `cose-gate [--strict] [--verbose] [--quiet] KEYS [AADHEX]`: reads a CBOR sequence from standard
-//! input, and writes the messages whose tags are good under the keys of the file KEYS to standard
-//! output. AADHEX is the external data in hex. With `--strict` only messages in canonical encoding
-//! pass; with `--verbose` standard error says more, with `--quiet` nothing of what passed.
+//! `cose-gate [--strict] [--verbose] [--quiet] [--summary] KEYS [AADHEX]`: reads a CBOR sequence
+//! from standard input, and writes the messages whose tags are good under the keys of the file KEYS
+//! to standard output. AADHEX is the external data in hex. With `--strict` only messages in
+//! canonical encoding pass; with `--verbose` standard error says more, with `--quiet` nothing of
+//! what passed, with `--summary` nothing of any item.
 //!
 //! `cose-gate --stream [--payload FILE] [--verbose] KEYS [AADHEX]`: checks that standard input is
 //! one such message, as it comes, and puts its payload into FILE if its tag is good.
@@ -13,8 +14,8 @@ mod streaming;
 use crate::streaming::start_stream;
 use ciborium_ll::Io;
 use cose_gate_command::{
-    Content, NotRun, USAGE, ended, page_for, program, read_arguments, read_in_blocks, words_of,
-    write_in_blocks, write_page,
+    Content, GATE, NotRun, USAGE, ended, page_for, program, read_arguments, read_in_blocks,
+    say_wrong, words_of, write_in_blocks, write_page,
 };
 use cose_gate_program::Blocks;
 use std::process::ExitCode;
@@ -25,7 +26,7 @@ const VERSION: &str = "cose-gate 0.8\n";
 
 /// What `-h` and `--help` print. The script `cose-gate` prints the same.
 const HELP: &str = "\
-usage: cose-gate [--strict] [--verbose] [--quiet] KEYS [AADHEX] < INPUT > PASSED
+usage: cose-gate [--strict] [--verbose] [--quiet] [--summary] KEYS [AADHEX] < INPUT > PASSED
        cose-gate --stream [--payload FILE] [--verbose] KEYS [AADHEX] < MESSAGE
 Reads a CBOR sequence, and writes the messages that pass, each in canonical encoding.
 What passes: a COSE_Mac0 in its tag 17, whose MAC is HMAC with SHA-256 under its first matching key.
@@ -33,7 +34,7 @@ KEYS: a file with a COSE_KeySet. AADHEX: the external data in hex, empty if it i
 With --strict a message that isn't in canonical encoding already is refused: NotShortest.
 On standard error: a line for each item, and at the end how many passed and were refused.
 With --verbose indented lines after these say why an item is refused, or the run stops.
-With --quiet an item that passed has no line.
+With --quiet an item that passed has no line, with --summary no item has: only the last line is.
 With --stream, which comes first, the input is one such message, of any size: it is checked as
 it comes, and nothing is written to standard output. FILE, which is a regular file or not there
 yet, gets its payload once its MAC is found to be good.
@@ -43,7 +44,13 @@ it is out of memory.
 ";
 
 fn main(rt: HostRuntime) -> ExitCode {
-    ExitCode::from(ended(start(&rt), USAGE, &mut Io::new(rt.stderr())))
+    let end = start(&rt);
+    let mut err = Io::new(rt.stderr());
+    let status = ended(end, USAGE, &mut err);
+    if let Err(NotRun::Usage) = end {
+        say_wrong(rt.alloc(), None, &GATE, &mut err);
+    }
+    ExitCode::from(status)
 }
 
 /// Runs the program, and returns its status.

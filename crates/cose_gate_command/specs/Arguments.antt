@@ -8,11 +8,13 @@ use Rattle.cose_gate_command.specs.declared.arguments.Arguments.{Arguments as He
 use Rattle.cose_gate_command.specs.declared.options.AskArguments.{AskArguments as HeldAsk}
 use Rattle.cose_gate_command.specs.declared.options.PassArguments.{PassArguments as HeldPass}
 
--- what the arguments of cose-gate ask for: [--strict] [--verbose] [--quiet] KEYS [AADHEX]
+-- what the arguments of cose-gate ask for: [--strict] [--verbose] [--quiet] [--summary] KEYS
+-- [AADHEX]
 pub record Arguments : Type 0 where
   pub strict : Bool
   pub verbose : Bool
   pub quiet : Bool
+  pub summary : Bool
   pub keys : List ℕ
   pub aad : Option (List ℕ)
 
@@ -21,6 +23,7 @@ arguments_view a = record {
   strict = a.strict;
   verbose = a.verbose;
   quiet = a.quiet;
+  summary = a.summary;
   keys = a.keys.now;
   aad = option_copied a.aad;
 }
@@ -42,21 +45,24 @@ are_known own (w ∷ ws) =
 
 -- those of cose-gate and of cose-ask
 abbrev pub gates : List ℕ → Bool
-gates w = bytes_eq w (codes "--verbose") || bytes_eq w (codes "--quiet")
+gates w =
+    bytes_eq w (codes "--verbose") || (bytes_eq w (codes "--quiet") || bytes_eq w (codes "--summary"))
 
 abbrev pub asks : List ℕ → Bool
 asks w = bytes_eq w (codes "--lines") || bytes_eq w (codes "--fields")
 
 -- KEYS, and AADHEX if it is there, with these options
-abbrev pub of_files : Bool → Bool → Bool → List (List ℕ) → Option Arguments
-of_files s v q ws = option_map
-    (λ w. record { strict = s; verbose = v; quiet = q; keys = w.0; aad = w.1 }) (words ws)
+abbrev pub of_files : Bool → Bool → Bool → Bool → List (List ℕ) → Option Arguments
+of_files s v q b ws = option_map
+    (λ w. record { strict = s; verbose = v; quiet = q; summary = b; keys = w.0; aad = w.1 })
+    (words ws)
 
 -- the options, anywhere, and the other words
 abbrev pub arguments : List (List ℕ) → Option Arguments
 arguments ws =
     if are_known gates ws
     then of_files (has (codes "--strict") ws) (has (codes "--verbose") ws) (has (codes "--quiet") ws)
+    (has (codes "--summary") ws)
     (filter (λ w. not (is_option w)) ws)
     else None
 
@@ -117,10 +123,10 @@ pub record PassArguments : Type 0 where
   pub accepted : List ℕ
   pub aad : Option (List ℕ)
 
--- the arguments of cose-gate without --verbose and --quiet, with ACCEPTED as KEYS
+-- the arguments of cose-gate without --verbose, --quiet and --summary, with ACCEPTED as KEYS
 abbrev pub if_plain : Bool → Arguments → Option PassArguments
 if_plain digests a =
-    if a.verbose || a.quiet then None
+    if a.verbose || (a.quiet || a.summary) then None
     else Some (record { digests = digests; strict = a.strict; accepted = a.keys; aad = a.aad })
 
 abbrev pub with_digests : Bool → List (List ℕ) → Option PassArguments

@@ -15,7 +15,7 @@ abbrev pub after : Words → List (List ℕ) → Option Arguments
 after d ws =
     if are_known gates ws
     then of_files (d.strict || has (codes "--strict") ws) (d.verbose || has (codes "--verbose") ws)
-    (d.quiet || has (codes "--quiet") ws)
+    (d.quiet || has (codes "--quiet") ws) (d.summary || has (codes "--summary") ws)
     (files_of (option_map (λ f. (f.0.now, option_copied f.1)) d.files)
     ++ filter (λ w. not (is_option w)) ws)
     else None

@@ -14,15 +14,17 @@ pub struct Arguments<'a> {
     pub verbose: bool,
     /// Nothing is said of an item that passed.
     pub quiet: bool,
+    /// Nothing is said of any item.
+    pub summary: bool,
     /// The name of the file with the key set.
     pub keys: &'a str,
     /// The external data in hex.
     pub aad: Option<&'a str>,
 }
 
-/// What the arguments after the program's name ask for: `--strict`, `--verbose` and `--quiet`,
-/// anywhere, KEYS, and AADHEX if it is there; `None` if they are anything else. A file of such a
-/// name is `./--strict`.
+/// What the arguments after the program's name ask for: `--strict`, `--verbose`, `--quiet` and
+/// `--summary`, anywhere, KEYS, and AADHEX if it is there; `None` if they are anything else. A file
+/// of such a name is `./--strict`.
 pub fn read_arguments(all: &[String]) -> Option<Arguments<'_>>
     ensures { option_map arguments_view result ≡ spec.arguments (map string_bytes all.now) }
 {
@@ -30,6 +32,7 @@ pub fn read_arguments(all: &[String]) -> Option<Arguments<'_>>
         strict: false,
         verbose: false,
         quiet: false,
+        summary: false,
         files: None,
     };
     for word in all {
@@ -42,6 +45,7 @@ pub fn read_arguments(all: &[String]) -> Option<Arguments<'_>>
         strict: words.strict,
         verbose: words.verbose,
         quiet: words.quiet,
+        summary: words.summary,
         keys,
         aad,
     })
@@ -53,6 +57,7 @@ struct Words<'a> {
     strict: bool,
     verbose: bool,
     quiet: bool,
+    summary: bool,
     files: Option<(&'a str, Option<&'a str>)>,
 }
 
@@ -66,6 +71,7 @@ impl<'a> Words<'a> {
             "--strict" => self.strict = true,
             "--verbose" => self.verbose = true,
             "--quiet" => self.quiet = true,
+            "--summary" => self.summary = true,
             word if is_option(word) => return false,
             word => match self.files {
                 None => self.files = Some((word, None)),

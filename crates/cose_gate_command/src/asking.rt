@@ -114,6 +114,7 @@ fn ask_keys<R: Read, W: Write, E: Write>(
                 strict: asked.strict,
                 verbose: false,
                 quiet: false,
+                summary: false,
                 keys: file.name,
                 aad: asked.aad,
             };

@@ -7,17 +7,27 @@ ghost use Rattle.cose_gate_program.specs.Writing.{HandedOn};
 
 use crate::arguments::read_arguments;
 use crate::key_file::KeyFile;
+use crate::starting::write;
+use crate::usage::{Takes, say_wrong};
 use crate::verbose::run_asked;
 use ciborium_ll::{Read, Write};
 use std::alloc::Global;
 
 /// The line for other arguments.
-pub const USAGE: &str =
-    "usage: cose-gate [--strict] [--verbose] [--quiet] KEYS [AADHEX] < INPUT > PASSED\n";
+pub const USAGE: &str = "usage: cose-gate KEYS [AADHEX]\n";
+
+/// The arguments of `cose-gate`.
+pub const GATE: Takes<'static> = Takes {
+    program: "cose-gate",
+    options: &["--strict", "--verbose", "--quiet", "--summary"],
+    named: &[],
+    first: "KEYS is missing: a file with a key set, which cose-key makes",
+    most: 2,
+};
 
 /// The program over the arguments after its name, if `keys` is what the file holds that they name,
-/// or `fault` says why it can't be read. If they aren't its arguments nothing is read, the
-/// line on `err` is `USAGE`, and the status 2. Lines and statuses are else those of `run_with`; if
+/// or `fault` says why it can't be read. If they aren't its arguments nothing is read, the first
+/// line on `err` is `USAGE`, lines after it begin with two blanks, and the status is 2. Lines and statuses are else those of `run_with`; if
 /// KEYS can't be used, a line that begins with two blanks says why, and nothing else of the file.
 pub fn program<'a, R: Read, W: Write, E: Write>(
     alloc: Global,
@@ -38,8 +48,8 @@ pub fn program<'a, R: Read, W: Write, E: Write>(
     ensures lines { result < 2 → HandedOn E.Write err.old err.new }
 {
     let Some(asked) = read_arguments(all) else {
-        let _ = err.write_all(USAGE.as_bytes());
-        let _ = err.flush();
+        write(USAGE, err);
+        say_wrong(alloc, Some(all), &GATE, err);
         return 2;
     };
     let file = KeyFile {

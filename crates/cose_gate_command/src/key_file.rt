@@ -99,12 +99,17 @@ fn rule(why: NotBegun) -> &'static str {
     }
 }
 
-/// The name of a file, escaped, so that it can't steer a terminal or look like another line.
+/// The name of a file.
 fn put_name<P: fmt::Write>(name: &str, page: &mut Page<'_, P>) {
-    for c in name.chars() {
+    put_word(name, page);
+    page.write_str(": ");
+}
+
+/// An argument, escaped, so that it can't steer a terminal or look like another line.
+pub(crate) fn put_word<P: fmt::Write>(word: &str, page: &mut Page<'_, P>) {
+    for c in word.chars() {
         write_char(c, false, page);
     }
-    page.write_str(": ");
 }
 
 /// Why a string isn't bytes in hex: its first character that is no digit, or how many it has.

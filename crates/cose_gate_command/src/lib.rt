@@ -23,11 +23,12 @@ mod question;
 mod question_writer;
 mod starting;
 mod tokens;
+mod usage;
 mod verbose;
 
 pub use crate::arguments::{Arguments, read_arguments};
 pub use crate::asking::ask;
-pub use crate::command::{USAGE, program};
+pub use crate::command::{GATE, USAGE, program};
 pub use crate::explained::{Explained, Note, Reasons};
 pub use crate::key_file::{KeyFile, say_not_begun, write_reason};
 pub use crate::more::{say_fault, say_keys, say_reason, write_indented, write_more};
@@ -38,3 +39,4 @@ pub use crate::starting::{
     Content, ended, page_for, read_in_blocks, words_of, write_in_blocks, write_page,
 };
 pub use crate::tokens::TokenArguments;
+pub use crate::usage::{Takes, say_wrong};

@@ -28,8 +28,19 @@ pub(crate) struct Sources<'n> {
 pub(crate) struct Manner {
     /// More is said of refusals and stops.
     pub(crate) verbose: bool,
-    /// Nothing is said of an item that passed.
-    pub(crate) quiet: bool,
+    /// Which items have a line.
+    pub(crate) kept: Items,
+}
+
+/// Which items have a line.
+#[derive(Debug, Clone, Copy, PartialEq, Eq)]
+pub(crate) enum Items {
+    /// Each one.
+    All,
+    /// Those that were refused.
+    Refused,
+    /// None.
+    Hidden,
 }
 
 /// The lines of the program, and if it is verbose after each what is said more.
@@ -89,12 +100,23 @@ fn place_after(notice: &Notice, place: Place, taken: usize) -> Place {
     }
 }
 
+/// Whether an item has no line.
+fn hides(kept: Items, verdict: Verdict) -> bool
+    ensures { result ≡ spec.hides kept verdict }
+{
+    match kept {
+        Items::All => false,
+        Items::Refused => has_passed(verdict),
+        Items::Hidden => true,
+    }
+}
+
 /// Whether a notice has no line.
-fn is_silent(quiet: bool, notice: &Notice) -> bool
-    ensures { result ≡ spec.is_silent quiet notice.now }
+fn is_silent(kept: Items, notice: &Notice) -> bool
+    ensures { result ≡ spec.is_silent kept notice.now }
 {
     match notice {
-        Notice::Item(entry) => quiet && has_passed(entry.verdict),
+        Notice::Item(entry) => hides(kept, entry.verdict),
         Notice::Counts(_) | Notice::Stopped(_) | Notice::NotBegun(_) => false,
     }
 }
@@ -106,28 +128,36 @@ fn has_passed(verdict: Verdict) -> bool
 }
 
 /// Writes the line of a notice, if it has one.
-fn write_shown<W: Write>(quiet: bool, notice: &Notice, out: &mut W)
-    ensures wrote { Wrote W.Write out.old out.new (spec.shown quiet notice.now) }
+fn write_shown<W: Write>(kept: Items, notice: &Notice, out: &mut W)
+    ensures wrote { Wrote W.Write out.old out.new (spec.shown kept notice.now) }
     ensures handed { is_last notice.now ≡ true → HandedOn W.Write out.old out.new }
 {
-    if is_silent(quiet, notice) {
+    if is_silent(kept, notice) {
         return;
     }
     write_notice(notice, out);
 }
 
-/// Says more of a notice, if it is verbose.
+/// Whether a notice is of an item, and items have no line.
+fn is_left_out(kept: Items, notice: &Notice) -> bool {
+    matches!(kept, Items::Hidden) && matches!(notice, Notice::Item(_))
+}
+
+/// Says more of a notice, if it is verbose and the notice isn't left out.
 fn explain<W: Write>(
-    verbose: bool,
+    manner: Manner,
     notice: &Notice,
     place: Place,
     note: &RefCell<Note>,
     out: &mut W,
 )
-    ensures said { AddsReasons W.Write verbose out.old out.new }
+    ensures said { AddsReasons W.Write manner.verbose out.old out.new }
     ensures handed { StaysHandedOn W.Write out.old out.new }
 {
-    if !verbose {
+    if !manner.verbose {
+        return;
+    }
+    if is_left_out(manner.kept, notice) {
         return;
     }
     say_more(notice, place, note, out);
@@ -138,7 +168,7 @@ impl<'o, 'n, W: Write> Teller for LineWriter<'o, 'n, W> {
 
     ghost state = { λ l. record {
       verbose = l.manner.verbose;
-      quiet = l.manner.quiet;
+      kept = l.manner.kept;
       name = l.out.ghost_name;
       was = l.was.now.items;
       told = l.told.now.items;
@@ -148,9 +178,9 @@ impl<'o, 'n, W: Write> Teller for LineWriter<'o, 'n, W> {
 
     fn tell(&mut self, notice: &Notice) {
         let Sources { note, taken } = *self.sources;
-        write_shown(self.manner.quiet, notice, self.out);
+        write_shown(self.manner.kept, notice, self.out);
         *self.told = self.told.and(notice);
-        explain(self.manner.verbose, notice, self.next, note, self.out);
+        explain(self.manner, notice, self.next, note, self.out);
         self.next = place_after(notice, self.next, taken.get());
     }
 

@@ -212,7 +212,7 @@ fn with_digests(digests: bool, words: &[String]) -> Option<PassArguments<'_>>
         ≡ spec.with_digests digests (map string_bytes words.now) }
 {
     let asked = read_arguments(words)?;
-    if asked.verbose || asked.quiet {
+    if asked.verbose || asked.quiet || asked.summary {
         return None;
     }
     Some(PassArguments {

@@ -164,7 +164,7 @@ fn write_line_fault<E: Write>(number: u64, fault: &str, err: &mut E)
 }
 
 /// Writes a text.
-fn write<E: Write>(text: &str, err: &mut E)
+pub(crate) fn write<E: Write>(text: &str, err: &mut E)
     ensures { Wrote E.Write err.old err.new text.now }
 {
     let _ = err.write_all(text.as_bytes());

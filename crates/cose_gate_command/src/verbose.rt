@@ -1,4 +1,4 @@
-//! The run, with `--verbose` and `--quiet` or without.
+//! The run, with `--verbose`, `--quiet` and `--summary` or without.
 ghost use Rattle.std.specs.Prelude.{◌≡◌, ◌<◌, ◌∷◌, [], option_copied};
 ghost use Rattle.cose_gate_program.specs.Beginning.{aad_of, status_of};
 ghost use Rattle.cose_gate_program.specs.Judge.{says_yes};
@@ -7,13 +7,13 @@ ghost use Rattle.cose_gate_program.specs.Telling.{EndsTold};
 ghost use Rattle.cose_gate_program.specs.Writing.{HandedOn};
 ghost use Rattle.cose_gate_program.specs.declared.telling.Notice.TheVariants as notice;
 ghost use Rattle.cose_gate_command.specs.Ends.{bounds_by};
-ghost use Rattle.cose_gate_command.specs.RunLines.{SaysAll};
+ghost use Rattle.cose_gate_command.specs.RunLines.{SaysAll, items_by};
 
 use crate::arguments::Arguments;
 use crate::counted::Counted;
 use crate::explained::{Explained, Note, Reasons};
 use crate::key_file::{KeyFile, say_not_begun, write_reason};
-use crate::line_writer::{LineWriter, Manner, Sources};
+use crate::line_writer::{Items, LineWriter, Manner, Sources};
 use crate::options::{RunTerms, run_terms};
 use ciborium_ll::log::Log;
 use ciborium_ll::{Read, Write};
@@ -30,7 +30,8 @@ pub(crate) fn end_unbegun<E: Write>(
     err: &mut E,
 ) -> u8
     ensures status { result ≡ status_of why }
-    ensures said { SaysAll E.Write asked.entry.verbose asked.entry.quiet file.entry.fault.now
+    ensures said { SaysAll E.Write asked.entry.verbose
+        (items_by asked.entry.quiet asked.entry.summary) file.entry.fault.now
         (option_copied file.entry.bytes) err.old err.new (notice.NotBegun why ∷ []) }
 {
     write_notice(&Notice::NotBegun(why), err);
@@ -42,11 +43,29 @@ pub(crate) fn end_unbegun<E: Write>(
     why.status()
 }
 
+/// How a run with these arguments is told.
+fn manner_of(asked: Arguments<'_>) -> Manner
+    ensures verbose { result.verbose ≡ asked.entry.verbose }
+    ensures kept { result.kept ≡ items_by asked.entry.quiet asked.entry.summary }
+{
+    let kept = if asked.summary {
+        Items::Hidden
+    } else if asked.quiet {
+        Items::Refused
+    } else {
+        Items::All
+    };
+    Manner {
+        verbose: asked.verbose,
+        kept,
+    }
+}
+
 /// As `run_with` of `cose_gate_program`; if it is verbose, after each line on `err` what is said
 /// more, in lines that begin with two blanks: of a refusal what it means, and why the judge said
 /// no; of a stop the number and the offset of the item, what is wrong with it, and what to do; of
 /// KEYS its name, and what is wrong with it. Else a line says of KEYS alone what is wrong with it.
-/// If it is quiet, an item that passed has no line. `file` tells of the file KEYS. All are one run
+/// If it is quiet, an item that passed has no line, and of a summary no item has one. `file` tells of the file KEYS. All are one run
 /// over one type of reader, judge and teller: with two runs the compiler would no longer put what
 /// both call into one function, and each message would take up to 6 % more instructions.
 pub(crate) fn run_asked<'f, 'd, R: Read, W: Write, E: Write>(
@@ -61,7 +80,8 @@ pub(crate) fn run_asked<'f, 'd, R: Read, W: Write, E: Write>(
         (aad_of (option_copied asked.entry.aad))
         (devices_of R.Read W.Write input.old out.old)
         (devices_of R.Read W.Write input.new out.new) result
-        (SaysAll E.Write asked.entry.verbose asked.entry.quiet file.entry.fault.now
+        (SaysAll E.Write asked.entry.verbose
+        (items_by asked.entry.quiet asked.entry.summary) file.entry.fault.now
         (option_copied file.entry.bytes) err.old err.new) }
     ensures kept { R.handle input.new ≡ R.handle input.old }
     ensures lent { W.handle out.new ≡ W.handle out.old }
@@ -74,10 +94,7 @@ pub(crate) fn run_asked<'f, 'd, R: Read, W: Write, E: Write>(
         note: &note,
         taken: &taken,
     };
-    let manner = Manner {
-        verbose: asked.verbose,
-        quiet: asked.quiet,
-    };
+    let manner = manner_of(asked);
     let was = Log::new().and(&*err);
     let mut told = Log::new();
     match begin(alloc, file.bytes, asked.aad) {

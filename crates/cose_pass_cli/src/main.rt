@@ -5,15 +5,24 @@
 
 use ciborium_ll::Io;
 use cose_gate_command::{
-    Content, NotRun, ended, page_for, pass, pass_arguments, read_in_blocks, words_of,
-    write_in_blocks, write_page,
+    Content, NotRun, Takes, ended, page_for, pass, pass_arguments, read_in_blocks, say_wrong,
+    words_of, write_in_blocks, write_page,
 };
 use cose_gate_program::Blocks;
 use std::process::ExitCode;
 use std::{env, fs};
 
 /// The line for other arguments.
-const USAGE: &str = "usage: cose-pass [--digests] [--strict] ACCEPTED [AADHEX]\n";
+const USAGE: &str = "usage: cose-pass ACCEPTED [AADHEX]\n";
+
+/// Its arguments.
+const PASS: Takes<'static> = Takes {
+    program: "cose-pass",
+    options: &["--digests", "--strict"],
+    named: &[],
+    first: "ACCEPTED is missing: a file with the records that were accepted",
+    most: 2,
+};
 
 /// What `--version` prints.
 const VERSION: &str = "cose-pass 0.8\n";
@@ -42,17 +51,29 @@ CBOR, input or output failed, or out of memory.
 ";
 
 fn main(rt: HostRuntime) -> ExitCode {
-    ExitCode::from(ended(start(&rt), USAGE, &mut Io::new(rt.stderr())))
+    match words_of(rt.alloc(), env::args(&rt)) {
+        Ok(words) => finish(&rt, start(&rt, words.as_slice()), Some(words.as_slice())),
+        Err(why) => finish(&rt, Err(why), None),
+    }
+}
+
+/// Says why a run with these arguments, if they can be read, didn't come to its end.
+fn finish(rt: &HostRuntime, end: Result<u8, NotRun>, words: Option<&[String]>) -> ExitCode {
+    let mut err = Io::new(rt.stderr());
+    let status = ended(end, USAGE, &mut err);
+    if let Err(NotRun::Usage) = end {
+        say_wrong(rt.alloc(), words, &PASS, &mut err);
+    }
+    ExitCode::from(status)
 }
 
 /// Runs the program, and returns its status.
-fn start(rt: &HostRuntime) -> Result<u8, NotRun> {
-    let words = words_of(rt.alloc(), env::args(rt))?;
-    if let Some(page) = page_for(words.as_slice(), HELP, VERSION) {
+fn start(rt: &HostRuntime, words: &[String]) -> Result<u8, NotRun> {
+    if let Some(page) = page_for(words, HELP, VERSION) {
         return write_page(page, &mut Io::new(rt.stdout()));
     }
-    let accepted = read_accepted(rt, words.as_slice())?;
-    run(rt, words.as_slice(), accepted)
+    let accepted = read_accepted(rt, words)?;
+    run(rt, words, accepted)
 }
 
 /// What the file ACCEPTED holds, if the arguments name one.

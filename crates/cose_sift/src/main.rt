@@ -14,7 +14,8 @@ mod untagging;
 use crate::sifting::{Options, sift_told};
 use ciborium_ll::{Decoder, Io};
 use cose_gate_command::{
-    NotRun, ended, page_for, read_in_blocks, words_of, write_in_blocks, write_page,
+    NotRun, Takes, ended, page_for, read_in_blocks, say_wrong, words_of, write_in_blocks,
+    write_page,
 };
 use cose_gate_program::Blocks;
 use std::env;
@@ -24,7 +25,16 @@ use std::process::ExitCode;
 const MAX: usize = 1_048_576;
 
 /// The line for other arguments.
-const USAGE: &str = "usage: cose-sift [--untag] [--max BYTES] < INPUT > SIFTED\n";
+const USAGE: &str = "usage: cose-sift [--untag] [--max BYTES]\n";
+
+/// Its arguments.
+const SIFT: Takes<'static> = Takes {
+    program: "cose-sift",
+    options: &["--untag"],
+    named: &["--max"],
+    first: "",
+    most: 0,
+};
 
 /// What `--version` prints.
 const VERSION: &str = "cose-sift 0.8\n";
@@ -43,16 +53,28 @@ item or end inside one, input or output failed, or it is out of memory.
 ";
 
 fn main(rt: HostRuntime) -> ExitCode {
-    ExitCode::from(ended(start(&rt), USAGE, &mut Io::new(rt.stderr())))
+    match words_of(rt.alloc(), env::args(&rt)) {
+        Ok(words) => finish(&rt, start(&rt, words.as_slice()), Some(words.as_slice())),
+        Err(why) => finish(&rt, Err(why), None),
+    }
+}
+
+/// Says why a run with these arguments, if they can be read, didn't come to its end.
+fn finish(rt: &HostRuntime, end: Result<u8, NotRun>, words: Option<&[String]>) -> ExitCode {
+    let mut err = Io::new(rt.stderr());
+    let status = ended(end, USAGE, &mut err);
+    if let Err(NotRun::Usage) = end {
+        say_wrong(rt.alloc(), words, &SIFT, &mut err);
+    }
+    ExitCode::from(status)
 }
 
 /// Runs the program, and returns its status.
-fn start(rt: &HostRuntime) -> Result<u8, NotRun> {
-    let words = words_of(rt.alloc(), env::args(rt))?;
-    if let Some(page) = page_for(words.as_slice(), HELP, VERSION) {
+fn start(rt: &HostRuntime, words: &[String]) -> Result<u8, NotRun> {
+    if let Some(page) = page_for(words, HELP, VERSION) {
         return write_page(page, &mut Io::new(rt.stdout()));
     }
-    match options_of(words.as_slice()) {
+    match options_of(words) {
         Some(options) => run(rt, options),
         None => Err(NotRun::Usage),
     }
