@@ -11,7 +11,7 @@
 mod folder;
 mod streaming;
 
-use crate::streaming::start_stream;
+use crate::streaming::{is_for_stream, start_stream};
 use ciborium_ll::Io;
 use cose_gate_command::{
     Content, GATE, NotRun, USAGE, ended, page_for, program, read_arguments, read_in_blocks,
@@ -35,9 +35,9 @@ With --strict a message that isn't in canonical encoding already is refused: Not
 On standard error: a line for each item, and at the end how many passed and were refused.
 With --verbose indented lines after these say why an item is refused, or the run stops.
 With --quiet an item that passed has no line, with --summary no item has: only the last line is.
-With --stream, which comes first, the input is one such message, of any size: it is checked as
-it comes, and nothing is written to standard output. FILE, which is a regular file or not there
-yet, gets its payload once its MAC is found to be good.
+With --stream the input is one such message, of any size: it is checked as it comes, and
+nothing is written to standard output. FILE, which is a regular file or not there yet, gets its
+payload once its MAC is found to be good.
 Status 0: no item was refused. 1: some were. 2: wrong arguments, or AADHEX is not hex.
 3: KEYS can't be read, or isn't a key set. 4: the input isn't CBOR, input or output failed, or
 it is out of memory.
@@ -60,7 +60,7 @@ fn start(rt: &HostRuntime) -> Result<u8, NotRun> {
         return write_page(page, &mut Io::new(rt.stdout()));
     }
     match words.as_slice() {
-        [first, rest @ ..] if first.as_str() == "--stream" => start_stream(rt, rest),
+        words if is_for_stream(words) => start_stream(rt, words),
         words => run(rt, words, read_keys(rt, words)?),
     }
 }
