@@ -7,6 +7,7 @@ mod cut;
 mod gated;
 mod lines;
 mod looks;
+mod meaning;
 mod object;
 mod printer;
 mod said;

@@ -3,8 +3,7 @@ use cose_notation::Look;
 use std::slice;
 
 /// The lines for arguments that it doesn't know.
-pub const USAGE: &str =
-    "usage: cose-show [--questions] [--strict] [--json] [--aad HEX] [--keys KEYS]
+pub const USAGE: &str = "usage: cose-show [--covered] [--strict] [--json] [--aad HEX] [--keys KEYS]
                  [--full] [--secrets] [FILE]
        cose-show --cut SIZE DIR [FILE]";
 
@@ -12,18 +11,19 @@ pub const USAGE: &str =
 const VERSION: &str = "cose-show 0.8\n";
 
 /// What `--help` writes.
-const HELP: &str = "usage: cose-show [--questions] [--strict] [--json] [--aad HEX] [--keys KEYS]
+const HELP: &str = "usage: cose-show [--covered] [--strict] [--json] [--aad HEX] [--keys KEYS]
                  [--full] [--secrets] [FILE]
        cose-show --cut SIZE DIR [FILE]
 
 Shows each item of a CBOR sequence, from FILE or standard input: its number,
 offset and length, what a COSE message or a key set holds, of any other item
-its diagnostic notation with encoding indicators, and what the gate says of
-its shape. Strings of more than 64 bytes are cut; secrets of keys are left out.
+its diagnostic notation with encoding indicators, and whether it is well-formed
+or why cose-gate refuses it. Strings of more than 64 bytes are cut; secrets of
+keys are left out.
 
-  --keys KEYS  also whether cose-gate's judge says yes to each message under the
-               key set in the file KEYS, and the first reason if it says no
-  --questions  also the bytes that each signature or tag covers, in hex
+  --keys KEYS  also whether the MAC of each message is good under the key set in
+               the file KEYS, and the first reason if it isn't
+  --covered    also the bytes that each signature or MAC covers, in hex
   --aad HEX    the external data, in hex; empty without it
   --strict     also whether a message that may pass is in canonical encoding,
                and the first place where it isn't
@@ -53,7 +53,7 @@ pub enum Words<'a> {
 #[derive(Debug, Clone, Copy, PartialEq, Eq)]
 pub struct Options<'a> {
     /// With the covered bytes.
-    pub questions: bool,
+    pub covered: bool,
     /// With what keeps a message from being its canonical encoding.
     pub strict: bool,
     /// As JSON.
@@ -82,7 +82,7 @@ pub struct Cut<'a> {
 /// What the arguments ask for; none if one isn't known.
 pub fn read_words(all: &[String]) -> Option<Words<'_>> {
     let mut options = Options {
-        questions: false,
+        covered: false,
         strict: false,
         json: false,
         look: Look::least(),
@@ -113,7 +113,7 @@ fn read_word<'a>(
     options: &mut Options<'a>,
 ) -> Option<()> {
     match word {
-        "--questions" => options.questions = true,
+        "--covered" | "--questions" => options.covered = true,
         "--strict" => options.strict = true,
         "--json" => options.json = true,
         "--full" => options.look.full = true,
