@@ -110,9 +110,6 @@ impl<'a, P: fmt::Write> Says for Text<'a, P> {
                     write_around(held, offset, fault.at, &mut self.page);
                 }
             }
-            Said::Looks(name) => {
-                writeln!(page, "the input looks like {name}, and has to be binary");
-            }
         }
         self.page.end()
     }

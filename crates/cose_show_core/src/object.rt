@@ -87,7 +87,6 @@ impl<'a, P: fmt::Write> Says for Json<'a, P> {
                 }
                 self.page.write_str("}\n");
             }
-            Said::Looks(_) => {}
         }
         self.page.end()
     }

@@ -53,8 +53,6 @@ pub enum Said<'a> {
     Damaged(u64, usize),
     /// Its fault, where it begins, and if secrets are asked for what was read of it.
     Fault(Fault, usize, Option<&'a [u8]>),
-    /// What the input looks like that isn't binary.
-    Looks(&'static str),
 }
 
 /// So many bytes are shown before a fault, and so many from it on.
