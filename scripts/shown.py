@@ -10,7 +10,7 @@ import sys
 
 # of each type of keys (RFC 9053, section 7; RFC 8230; AKP) a public label, and the labels of secrets
 TYPES = {4: (None, [-1]), 1: (-2, [-4]), 2: (-2, [-4]), 3: (-1, [-3, -4, -5, -6, -7, -8, -10, -11, -12]), 7: (-1, [-2])}
-OPTIONS = [[], ["--full"], ["--json"], ["--questions"], ["--questions", "--full", "--strict"], ["--json", "--questions", "--strict"]]
+OPTIONS = [[], ["--full"], ["--json"], ["--covered"], ["--covered", "--full", "--strict"], ["--json", "--covered", "--strict"]]
 
 
 def head(major, number, width=0):

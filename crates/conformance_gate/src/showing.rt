@@ -10,12 +10,12 @@ pub fn show(to: &mut Out, row: &mut &str) {
     let input = words::bytes(to, row);
     let all = words::owned(to, row);
     match read_words(all.as_slice()) {
-        Some(Words::Run(options)) => {
+        Ok(Words::Run(options)) => {
             let keys = keys_of(to, options);
             add_page(to, options, keys.as_deref(), input.as_slice());
         }
-        Some(Words::Text(text)) => to.text(text.lines().next().unwrap_or_default()),
-        None => to.text("usage"),
+        Ok(Words::Text(text)) => to.text(text.lines().next().unwrap_or_default()),
+        Err(_) => to.text("usage"),
     }
 }
 

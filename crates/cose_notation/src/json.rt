@@ -1,11 +1,14 @@
 //! Members of JSON objects (RFC 8259). They are written as they come, so that nothing is held
 //! beside the item.
+use crate::key_labels::Label;
 use crate::keys::Keys;
-use crate::parts::{integer, is_null, items};
+use crate::message::OuterTags;
+use crate::parts::{header_of, is_null, items, joined};
 use crate::shows::{Done, Entry, Group, Labels, PartIs, Seen, Shows};
-use crate::text::{operation_name, write_shown};
+use crate::text::{operation_name, plain_text, write_shown};
 use crate::time::claim_time;
 use cbor_diag::{Page, Style, View, write_hex};
+use ciborium_ll::Header;
 use std::alloc::Global;
 use std::fmt;
 
@@ -76,6 +79,13 @@ impl<'a, P: fmt::Write> Json<'a, P> {
         self.page.write_str("\"");
     }
 
+    /// Writes members whose values are texts.
+    pub fn words(&mut self, members: &[(&str, &str)]) {
+        for (name, word) in members {
+            self.word(name, word);
+        }
+    }
+
     /// Begins a list.
     pub fn open(&mut self) {
         self.page.write_str("[");
@@ -125,16 +135,28 @@ impl<'a, P: fmt::Write> Json<'a, P> {
         self.notation(item);
     }
 
-    /// Writes a value: its notation, as a number if it is an integer from -(2^53 - 1) to 2^53 - 1,
-    /// and what is registered of it.
+    /// The tags around a message, if there is one.
+    fn outer_tags(&mut self, mut tags: OuterTags<'_>) {
+        let mut is_first = true;
+        for _ in 0..u64::MAX {
+            let Some(tag) = tags.next() else {
+                break;
+            };
+            self.page
+                .write_str(if is_first { ",\"outer_tags\":[" } else { "," });
+            write!(self.page, "{tag}");
+            is_first = false;
+        }
+        if !is_first {
+            self.page.write_str("]");
+        }
+    }
+
+    /// Writes a value: its notation, what it is in a type of JSON, and what is registered of it.
     fn value(&mut self, entry: Entry<'_>, value: View<'_>) -> Done {
         self.name("value");
         self.notation(value);
-        if let Some(number) = integer(value.bytes()) {
-            if (-GREATEST..=GREATEST).contains(&number) {
-                write!(self.page, ",\"number\":{number}");
-            }
-        }
+        self.typed(entry, value)?;
         if let Some(name) = entry.value_name(value) {
             self.word("value_name", name);
         }
@@ -145,6 +167,46 @@ impl<'a, P: fmt::Write> Json<'a, P> {
             self.operations(value)?;
         }
         Ok(())
+    }
+
+    /// A text; a byte string in hex, as a text too if it is the id of a key; an integer, a bignum
+    /// too, from -(2^53 - 1) to 2^53 - 1 as a number.
+    fn typed(&mut self, entry: Entry<'_>, value: View<'_>) -> Done {
+        match header_of(value.bytes()) {
+            Some(Header::Text(_)) => {
+                let content = joined(self.alloc, value)?;
+                self.string(content.view(), false, true);
+            }
+            Some(Header::Bytes(_)) => {
+                let content = joined(self.alloc, value)?;
+                self.string(content.view(), true, entry.is_id());
+            }
+            _ => self.number(Label::of(value.bytes()).number()),
+        }
+        Ok(())
+    }
+
+    /// What a string holds, unless an item in it is hidden.
+    fn string(&mut self, bytes: View<'_>, in_hex: bool, as_text: bool) {
+        if bytes.holds_hidden() {
+            return;
+        }
+        if in_hex {
+            self.name("hex");
+            self.hex(bytes);
+        }
+        if let Some(text) = text_of(bytes, in_hex, as_text) {
+            self.word("text", text);
+        }
+    }
+
+    fn number(&mut self, number: Option<i64>) {
+        match number {
+            Some(number) if (-GREATEST..=GREATEST).contains(&number) => {
+                write!(self.page, ",\"number\":{number}");
+            }
+            _ => {}
+        }
     }
 
     /// The names of operations, null in place of one that has none.
@@ -170,12 +232,25 @@ impl<'a, P: fmt::Write> Json<'a, P> {
     }
 }
 
+/// The text that a string is; of bytes only a plain one.
+fn text_of(bytes: View<'_>, is_plain: bool, as_text: bool) -> Option<&str> {
+    if !as_text {
+        return None;
+    }
+    if is_plain {
+        return plain_text(bytes);
+    }
+    str::from_utf8(bytes.bytes()).ok()
+}
+
 impl<'a, P: fmt::Write> Shows for Json<'a, P> {
     fn begin(&mut self, group: Group<'_>) -> Done {
         match group {
-            Group::Message(name, tag) => {
-                self.word("kind", name);
+            Group::Message(message) => {
+                let tag = message.tag;
+                self.word("kind", message.form.name);
                 write!(self.page, ",\"tag_number\":{tag}");
+                self.outer_tags(message.outer);
             }
             Group::Keys(keys) => {
                 let is_one = keys == Keys::One;
@@ -253,7 +328,7 @@ impl<'a, P: fmt::Write> Shows for Json<'a, P> {
 
     fn end(&mut self, group: Group<'_>) -> Done {
         match group {
-            Group::Message(_, _) => {}
+            Group::Message(_) => {}
             Group::One(_, _, _) => {
                 self.page.write_str("}");
                 self.mark = ",";

@@ -21,7 +21,9 @@ pub use crate::blanks::{Masked, mask};
 pub use crate::json::Json;
 pub use crate::keys::{Keys, keys_in, show_keys};
 pub use crate::look::Look;
-pub use crate::message::{Form, Part, is_message, lacks_tag, message_of, show_message};
+pub use crate::message::{
+    Form, Message, OuterTags, Part, is_message, lacks_tag, message_of, show_message,
+};
 pub use crate::names::{algorithm, key_operation, key_type, parameter};
 pub use crate::parts::{Content, Members, entries, integer, is_bytes, items, joined};
 pub use crate::shows::{Done, Entry, Group, Labels, PartIs, Seen, Shows};

@@ -4,13 +4,11 @@ use crate::parts::{
     Members, entries, header_of, integer, is_bytes, is_label, is_null, is_one_item, items, joined,
     tagged,
 };
+use crate::role::{CWT, SELF_DESCRIBED};
 use crate::shows::{Done, Group, Labels, PartIs, Shows, show_entries};
 use cbor_diag::{NotWritten, View};
 use ciborium_ll::Header;
 use std::alloc::Global;
-
-/// The tag of a CBOR Web Token (RFC 8392, section 6).
-const CWT: u64 = 61;
 
 /// A kind of message, by its name and the parts after its headers.
 #[derive(Debug, Clone, Copy, PartialEq, Eq)]
@@ -52,14 +50,54 @@ fn form_of(tag: u64) -> Option<Form> {
     Some(Form { name, parts })
 }
 
-/// What kind of message an item is, with its tag, and what the tag is around. The tag of a CWT
-/// around it is ignored.
-pub fn message_of(item: View<'_>) -> Option<(Form, u64, View<'_>)> {
-    let (tag, content) = match tagged(item)? {
-        (CWT, content) => tagged(content)?,
-        other => other,
-    };
-    Some((form_of(tag)?, tag, content))
+/// A message, by its tag.
+#[derive(Clone, Copy)]
+pub struct Message<'a> {
+    /// Its kind.
+    pub form: Form,
+    /// Its tag.
+    pub tag: u64,
+    /// What the tag is around.
+    pub content: View<'a>,
+    /// The tags around it: those that `cose-sift --untag` takes off.
+    pub outer: OuterTags<'a>,
+}
+
+/// The tags 61 and 55799 that an item begins with, from the outermost on.
+#[derive(Clone, Copy)]
+pub struct OuterTags<'a> {
+    rest: View<'a>,
+}
+
+impl OuterTags<'_> {
+    /// The next one.
+    pub fn next(&mut self) -> Option<u64> {
+        match tagged(self.rest)? {
+            (tag @ (CWT | SELF_DESCRIBED), content) => {
+                self.rest = content;
+                Some(tag)
+            }
+            _ => None,
+        }
+    }
+}
+
+/// The message that an item is, which may be in tags 61 and 55799.
+pub fn message_of(item: View<'_>) -> Option<Message<'_>> {
+    let outer = OuterTags { rest: item };
+    let mut tags = outer;
+    for _ in 0..item.len() {
+        if tags.next().is_none() {
+            break;
+        }
+    }
+    let (tag, content) = tagged(tags.rest)?;
+    Some(Message {
+        form: form_of(tag)?,
+        tag,
+        content,
+        outer,
+    })
 }
 
 /// Whether an item is an array of the parts of a COSE_Sign1, which are those of a COSE_Mac0 too:
@@ -87,7 +125,7 @@ pub fn lacks_tag(alloc: Global, item: View<'_>) -> Result<bool, NotWritten> {
 /// Whether an item is a message whose parts can be shown.
 pub fn is_message(item: View<'_>) -> bool {
     match message_of(item) {
-        Some((_, _, content)) => matches!(header_of(content.bytes()), Some(Header::Array(_))),
+        Some(message) => matches!(header_of(message.content.bytes()), Some(Header::Array(_))),
         None => false,
     }
 }
@@ -97,15 +135,15 @@ pub fn is_message(item: View<'_>) -> bool {
 /// # Errors
 /// `Output` and `Memory`.
 pub fn show_message<S: Shows>(alloc: Global, item: View<'_>, to: &mut S) -> Done {
-    let Some((form, tag, content)) = message_of(item) else {
+    let Some(message) = message_of(item) else {
         return Ok(());
     };
-    to.begin(Group::Message(form.name, tag))?;
-    let Some(mut parts) = items(alloc, content) else {
+    to.begin(Group::Message(message))?;
+    let Some(mut parts) = items(alloc, message.content) else {
         return to.part("not an array", PartIs::Wrong);
     };
     show_headers(alloc, &mut parts, to)?;
-    for part in form.parts {
+    for part in message.form.parts {
         match parts.next()? {
             Some(item) => show_part(alloc, *part, item, to)?,
             None => to.part(name_of(*part), PartIs::Missing)?,

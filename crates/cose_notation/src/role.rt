@@ -1,13 +1,17 @@
 //! What items are in a message, as far as that says what the labels of its maps are.
 use ciborium_ll::Header;
 
+/// The tag of a CBOR Web Token (RFC 8392, section 6).
+pub const CWT: u64 = 61;
+
+/// The tag of self-described CBOR (RFC 8949, section 3.4.6).
+pub const SELF_DESCRIBED: u64 = 55799;
+
 /// What an item is in a message, as far as that says what the labels of its maps are.
 #[derive(Debug, Clone, Copy, PartialEq, Eq)]
 pub enum Role {
-    /// Nothing is around it.
+    /// Nothing is around it but tags that may be around a message.
     Top,
-    /// What is in the tag of a CWT.
-    Wrapped,
     /// What is in the tag of a message: an array, and at this place in it a list of signatures or
     /// recipients.
     Message(Option<usize>),
@@ -46,10 +50,10 @@ impl Inside {
 /// What is in an item that begins with this head.
 pub fn inside_of(header: Header, role: Role) -> Inside {
     match (header, role) {
-        (Header::Tag(61), Role::Top) => Inside::Each(Role::Wrapped),
-        (Header::Tag(16..=18), Role::Top | Role::Wrapped) => Inside::Each(Role::Message(None)),
-        (Header::Tag(96 | 98), Role::Top | Role::Wrapped) => Inside::Each(Role::Message(Some(3))),
-        (Header::Tag(97), Role::Top | Role::Wrapped) => Inside::Each(Role::Message(Some(4))),
+        (Header::Tag(CWT | SELF_DESCRIBED), Role::Top) => Inside::Each(Role::Top),
+        (Header::Tag(16..=18), Role::Top) => Inside::Each(Role::Message(None)),
+        (Header::Tag(96 | 98), Role::Top) => Inside::Each(Role::Message(Some(3))),
+        (Header::Tag(97), Role::Top) => Inside::Each(Role::Message(Some(4))),
         (Header::Array(_), Role::Message(list)) => Inside::Parts(list),
         (Header::Array(_), Role::List) => Inside::Each(Role::One),
         (Header::Array(_), Role::One) => Inside::Parts(None),

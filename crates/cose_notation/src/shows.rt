@@ -2,6 +2,7 @@
 //! of output writes it: `Text` and `Json`.
 use crate::key_labels::{KeyPart, key_label};
 use crate::keys::Keys;
+use crate::message::Message;
 use crate::names::{algorithm, claim, content_format, curve, key_type, parameter};
 use crate::parts::{Members, integer, is_bytes, joined};
 use cbor_diag::{NotWritten, View};
@@ -29,8 +30,8 @@ pub trait Shows {
 /// What is told together.
 #[derive(Clone, Copy)]
 pub enum Group<'a> {
-    /// A message, by its name and tag. Its end isn't told.
-    Message(&'static str, u64),
+    /// A message. Its end isn't told.
+    Message(Message<'a>),
     /// Keys.
     Keys(Keys),
     /// Signatures or recipients, by the name of one.

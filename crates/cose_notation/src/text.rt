@@ -1,8 +1,10 @@
 //! Lines of text.
 use crate::keys::Keys;
 use crate::look::Look;
+use crate::message::OuterTags;
 use crate::names::key_operation;
 use crate::parts::{integer, is_bytes, items, joined};
+use crate::role::CWT;
 use crate::shows::{Done, Entry, Group, Labels, PartIs, Seen, Shows};
 use crate::time::claim_time;
 use cbor_diag::{
@@ -103,6 +105,50 @@ impl<'a, P: fmt::Write> Text<'a, P> {
         }
     }
 
+    /// Ends the line of a message after the tags around it.
+    fn outer_tags(&mut self, mut tags: OuterTags<'_>) {
+        let mut others = tags;
+        let _ = others.next();
+        let mut mark = match others.next() {
+            Some(_) => ", in tags ",
+            None => ", in tag ",
+        };
+        for _ in 0..u64::MAX {
+            let Some(tag) = tags.next() else {
+                break;
+            };
+            write!(self.page, "{mark}{tag}");
+            if tag == CWT {
+                self.page.write_str(" (CBOR Web Token)");
+            }
+            mark = " and ";
+        }
+        self.page.write_str("\n");
+    }
+
+    /// The id of a key in hex, and as a text if it is one.
+    pub fn id(&mut self, id: View<'_>) {
+        if id.holds_hidden() {
+            self.page.write_str("...");
+            return;
+        }
+        let is_whole = self.look.full || id.len() <= CUT;
+        let shown = if is_whole { id } else { id.front(CUT) };
+        self.page.write_str("h'");
+        write_hex(shown.bytes(), &mut self.page);
+        self.page.write_str(if is_whole { "'" } else { "'..." });
+        self.in_brackets(id);
+    }
+
+    /// Bytes as a text in brackets, if they are one.
+    fn in_brackets(&mut self, bytes: View<'_>) {
+        if let Some(text) = plain_text(bytes) {
+            self.page.write_str(" (");
+            self.text(text);
+            self.page.write_str(")");
+        }
+    }
+
     fn text(&mut self, text: &str) {
         if self.look.full || text.len() <= CUT {
             write_text(text, false, &mut self.page);
@@ -193,11 +239,7 @@ impl<'a, P: fmt::Write> Text<'a, P> {
         }
         if entry.is_id() && is_bytes(value.bytes()) {
             let id = joined(self.alloc, value)?;
-            if let Some(text) = plain_text(id.view()) {
-                self.page.write_str(" (");
-                self.text(text);
-                self.page.write_str(")");
-            }
+            self.in_brackets(id.view());
         }
         Ok(())
     }
@@ -247,7 +289,7 @@ impl<'a, P: fmt::Write> Text<'a, P> {
 
 /// The text that bytes are, if nothing in them is hidden and they have no control characters but
 /// those between lines and words.
-fn plain_text(bytes: View<'_>) -> Option<&str> {
+pub fn plain_text(bytes: View<'_>) -> Option<&str> {
     if bytes.holds_hidden() || bytes.is_empty() {
         return None;
     }
@@ -270,8 +312,10 @@ impl<'a, P: fmt::Write> Shows for Text<'a, P> {
     fn begin(&mut self, group: Group<'_>) -> Done {
         self.is_empty = false;
         match group {
-            Group::Message(name, tag) => {
-                writeln!(self.page, "  {name}, tag {tag}");
+            Group::Message(message) => {
+                let (name, tag) = (message.form.name, message.tag);
+                write!(self.page, "  {name}, tag {tag}");
+                self.outer_tags(message.outer);
                 self.level = 2;
             }
             Group::Keys(Keys::One) => {

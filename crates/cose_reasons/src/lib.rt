@@ -7,7 +7,7 @@ mod texts;
 mod why;
 
 pub use crate::keys::{Held, KeyBook, has_short_secret, read_keys};
-pub use crate::stop::Stop;
+pub use crate::stop::{Stop, TextKind, fault_of};
 pub use crate::texts::{is_of_base64, is_of_hex};
 pub use crate::why::{
     Headers, OTHER_KIND, Question, Secret, reason, secret_or_reason, write_wrong_tag,

@@ -39,7 +39,7 @@ pub fn cut_to_files<R: Files + AllocGlobal, I: io::Read + Drop>(
     for _ in 0..u64::MAX {
         let taken = match input.fill_buf() {
             Ok(block) => pieces.take(cutter.take(block)?, block)?,
-            Err(_) => return Err(Stop::Input),
+            Err(error) => return Err(Stop::of_input(error.kind())),
         };
         if taken == 0 {
             break;

@@ -12,7 +12,7 @@ pub fn opened<R: Files>(rt: &R, options: Options<'_>) -> Result<Option<R::File>,
     match options.path {
         Some(path) => match File::open(rt, path) {
             Ok(file) => Ok(Some(file)),
-            Err(_) => Err(Stop::NoFile),
+            Err(error) => Err(Stop::NoFile(error.kind())),
         },
         None => Ok(None),
     }
@@ -33,7 +33,7 @@ pub fn read_keys<R: Files + AllocGlobal>(
         Ok(bytes) => Ok(Some(bytes)),
         Err(error) => match error.kind() {
             io::ErrorKind::OutOfMemory => Err(Stop::Memory),
-            _ => Err(Stop::NoKeyFile),
+            kind => Err(Stop::NoKeyFile(kind)),
         },
     }
 }
@@ -42,7 +42,7 @@ pub fn read_keys<R: Files + AllocGlobal>(
 /// stops. What a flush that failed has left isn't written afterwards.
 ///
 /// # Errors
-/// Those of `show_as`, and `Output`.
+/// Those of `show_as`, `Output` and `Closed`.
 pub fn show_on<I: io::Read + Drop, O: io::Write + Drop>(
     alloc: Global,
     options: Options<'_>,
@@ -56,7 +56,7 @@ pub fn show_on<I: io::Read + Drop, O: io::Write + Drop>(
     let _ = output.into_parts();
     match flushed {
         Ok(()) => shown,
-        Err(_) => Err(Stop::Output),
+        Err(stop) => Err(stop),
     }
 }
 
@@ -66,6 +66,7 @@ mod tests {
     use crate::fake::Folder;
     use cose_show_core::{Words, read_words};
     use std::cell::RefCell;
+    use std::io::ErrorKind;
     use std::process::Abort;
 
     fn words(rt: &impl Abort, alloc: Global, all: &[&str]) -> Vec<String> {
@@ -78,7 +79,7 @@ mod tests {
     }
 
     fn options<'a>(rt: &impl Abort, words: &'a [String]) -> Options<'a> {
-        let Some(Words::Run(options)) = read_words(words) else {
+        let Ok(Words::Run(options)) = read_words(words) else {
             panic!(rt; "no options");
         };
         options
@@ -100,11 +101,15 @@ mod tests {
             ([].as_slice(), Ok(false), Ok(false)),
             (["it"].as_slice(), Ok(true), Ok(false)),
             (["--keys", "it"].as_slice(), Ok(false), Ok(true)),
-            (["other"].as_slice(), Err(Stop::NoFile), Ok(false)),
+            (
+                ["other"].as_slice(),
+                Err(Stop::NoFile(ErrorKind::NotFound)),
+                Ok(false),
+            ),
             (
                 ["--keys", "other"].as_slice(),
                 Ok(false),
-                Err(Stop::NoKeyFile),
+                Err(Stop::NoKeyFile(ErrorKind::NotFound)),
             ),
         ] {
             let all = words(&rt, alloc, all);
@@ -134,8 +139,8 @@ mod tests {
         for (stop, status) in [
             (Stop::Usage, 2),
             (Stop::NotHex, 2),
-            (Stop::NoFile, 3),
-            (Stop::NoKeyFile, 3),
+            (Stop::NoFile(ErrorKind::NotFound), 3),
+            (Stop::NoKeyFile(ErrorKind::NotFound), 3),
             (Stop::OneKey, 3),
             (Stop::Input, 4),
             (Stop::Output, 4),

@@ -2,7 +2,7 @@
 use crate::gated::{Comparing, gate_item};
 use cose_gate_core::{Asked, CoseError, MessageKind, Refusal, Verdict};
 use cose_gate_program::{CoseKeySet, HmacJudge};
-use cose_notation::{Look, mask};
+use cose_notation::{Look, Masked, mask};
 use cose_reasons::{KeyBook, OTHER_KIND, Question, Stop, reason};
 use cose_rules::{Layer, id_in};
 use coset_labels::TaggedCborSerializable;
@@ -12,8 +12,8 @@ use std::alloc::Global;
 /// What the judge answers.
 #[derive(Drop)]
 pub enum Answer {
-    /// The message passes.
-    Yes,
+    /// The message passes, under a key with this id; none if a secret is in it.
+    Yes(Option<Masked>),
     /// It doesn't, and why.
     No(String),
 }
@@ -53,13 +53,26 @@ impl<'a> Asking<'a> {
         };
         let mut out = Comparing::new(&[]);
         match gate_item(alloc, aad, item, &mut out, &mut self.judge)? {
-            Ok(Some(Verdict::Passed)) => Ok(Some(Answer::Yes)),
+            Ok(Some(Verdict::Passed)) => {
+                Ok(Some(Answer::Yes(key_id(alloc, self.book.look(), item)?)))
+            }
             Ok(Some(Verdict::Refused(Refusal::Judged(_)))) => {
                 let why = why_not(alloc, &self.book, aad, item, first)?;
                 Ok(Some(Answer::No(why)))
             }
             _ => Ok(None),
         }
+    }
+}
+
+/// The key id of a message that passed, if it may be shown.
+fn key_id(alloc: Global, look: Look, item: &[u8]) -> Result<Option<Masked>, Stop> {
+    let shown = shown_id(alloc, look, item)?;
+    match read_message(alloc, item)? {
+        Some(message) if id_of(&message) == shown.as_slice() => {
+            Ok(Some(mask(alloc, look, shown.as_slice())?))
+        }
+        _ => Ok(None),
     }
 }
 

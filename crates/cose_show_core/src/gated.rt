@@ -4,7 +4,7 @@ ghost use Rattle.std.specs.Prelude.{None, true};
 use ciborium_ll::log::Log;
 use ciborium_ll::{Full, Write};
 use cose_gate_core::{
-    About, Decoder, End, Entry, GateFault, Judge, Limits, Terms, Verdict, gate_by,
+    About, Decoder, End, Entry, GateFault, Judge, Limits, MessageKind, Terms, Verdict, gate_by,
 };
 use cose_reasons::Stop;
 use std::alloc::{AllocError, Global};
@@ -81,6 +81,8 @@ impl Write for Comparing<'_> {
 pub struct Counter {
     /// How many there were.
     pub count: usize,
+    /// The kind of the message that the last one was about.
+    pub kind: Option<MessageKind>,
     pieces: Log<usize>,
 }
 
@@ -89,6 +91,7 @@ impl Counter {
     pub fn new() -> Counter {
         Counter {
             count: 0,
+            kind: None,
             pieces: Log::new(),
         }
     }
@@ -111,7 +114,8 @@ impl Judge for Counter {
 
     ghost decided = { λ _ _. tt };
 
-    fn begin(&mut self, _about: &About) -> Result<(), AllocError> {
+    fn begin(&mut self, about: &About) -> Result<(), AllocError> {
+        self.kind = Some(about.kind);
         self.pieces = Log::new();
         Ok(())
     }

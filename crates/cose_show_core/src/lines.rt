@@ -1,8 +1,10 @@
 //! An item as lines of text.
 use crate::asking::Answer;
+use crate::meaning::{write_fault, write_refusal};
 use crate::said::{Said, Says, around};
 use crate::verdict::{Difference, UNTAGGED};
 use cbor_diag::Page;
+use cose_gate_core::MessageKind;
 use cose_notation::{Done, Text, View, is_message, write_len};
 use std::fmt;
 
@@ -25,17 +27,44 @@ impl<'a, P: fmt::Write> Says for Text<'a, P> {
                 }
             }
             Said::NotReached(number) => {
-                writeln!(page, "  gate: not reached, as it stops at item {number}");
+                writeln!(
+                    page,
+                    "  check: not reached: cose-gate stops at item {number}"
+                );
             }
-            Said::Passes(1) => {
-                page.write_str("  gate: passes if the judge says yes to 1 question\n");
+            Said::MayPass(kind, count) => write_unchecked(kind, count, page),
+            Said::Answer(Answer::No(why)) => writeln!(page, "  check: refused: Judged: {why}"),
+            Said::Answer(Answer::Yes(id)) => {
+                page.write_str("  check: the MAC is good");
+                match id {
+                    Some(id) if id.view().is_empty() => {
+                        page.write_str(", under the key without an id");
+                    }
+                    Some(id) => {
+                        page.write_str(", under ");
+                        self.id(id.view());
+                    }
+                    None => {}
+                }
+                self.page.write_str("\n");
             }
-            Said::Passes(count) => writeln!(
-                page,
-                "  gate: passes if the judge says yes to {count} questions"
-            ),
-            Said::Refused(refusal) => writeln!(page, "  gate: refused: {refusal}"),
-            Said::Stops(fault) => writeln!(page, "  gate: stops at this item: {fault}"),
+            Said::Refused(refusal) => {
+                page.write_str("  check: refused: ");
+                write_refusal(refusal, page);
+                page.write_str("\n");
+            }
+            Said::Wrapped(tag) => {
+                write!(
+                    page,
+                    "  check: cose-gate refuses tag {tag}; cose-sift --untag takes it off"
+                );
+                page.write_str(", and so does cose-verify --cwt\n");
+            }
+            Said::Stops(fault) => {
+                page.write_str("  check: cose-gate stops at this item: ");
+                write_fault(fault, page);
+                page.write_str("\n");
+            }
             Said::Part(wrong) => {
                 let (name, fault) = (wrong.name.as_str(), wrong.fault);
                 writeln!(page, "    {name}: {fault}");
@@ -44,8 +73,6 @@ impl<'a, P: fmt::Write> Says for Text<'a, P> {
                 page,
                 "    it has the shape of a {UNTAGGED} without its tag"
             ),
-            Said::Answer(Answer::Yes) => page.write_str("  judge: yes\n"),
-            Said::Answer(Answer::No(why)) => writeln!(page, "  judge: no: {why}"),
             Said::Shortest => page.write_str("  strict: it is in canonical encoding\n"),
             Said::Differs(difference, place) => {
                 let (before, behind, last) = match difference {
@@ -57,11 +84,15 @@ impl<'a, P: fmt::Write> Says for Text<'a, P> {
                 write!(page, "  strict: not in canonical encoding: {before}");
                 writeln!(page, "{difference}{behind} {place}{last}");
             }
-            Said::Question(number, covered) => {
-                write!(page, "  question {number} covers ");
+            Said::Covered(kind, number, covered) => {
+                match kind {
+                    MessageKind::Mac0 | MessageKind::Mac => page.write_str("  MAC covers "),
+                    MessageKind::Sign1 => page.write_str("  signature covers "),
+                    MessageKind::Sign => write!(page, "  signature {number} covers "),
+                }
                 self.end_with_bytes(covered, true);
             }
-            Said::Questions | Said::LastQuestion | Said::End => {}
+            Said::AllCovered | Said::LastCovered | Said::End => {}
             Said::Damaged(number, offset) => writeln!(page, "item {number} at {offset}, damaged"),
             Said::Fault(fault, offset, held) => {
                 match held {
@@ -79,11 +110,30 @@ impl<'a, P: fmt::Write> Says for Text<'a, P> {
                     write_around(held, offset, fault.at, &mut self.page);
                 }
             }
-            Said::Looks(name) => {
-                writeln!(page, "the input looks like {name}, and has to be binary");
-            }
         }
         self.page.end()
+    }
+}
+
+/// Writes what isn't checked of a message that may pass, and what does check it.
+fn write_unchecked<P: fmt::Write>(kind: Option<MessageKind>, count: usize, page: &mut Page<'_, P>) {
+    page.write_str("  check: well-formed; ");
+    match kind {
+        Some(MessageKind::Mac0) | None => {
+            page.write_str("its MAC isn't checked here (--keys KEYS does)\n");
+        }
+        Some(MessageKind::Mac) => {
+            page.write_str("its MAC has recipients, which no command here checks");
+            page.write_str(" (cose-ask says what it covers)\n");
+        }
+        Some(MessageKind::Sign1 | MessageKind::Sign) => {
+            if count > 1 {
+                write!(page, "its {count} signatures aren't");
+            } else {
+                page.write_str("its signature isn't");
+            }
+            page.write_str(" checked here (cose-verify does; cose-gate refuses it)\n");
+        }
     }
 }
 

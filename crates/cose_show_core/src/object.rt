@@ -5,6 +5,12 @@ use crate::verdict::UNTAGGED;
 use cose_notation::{Done, Json, View};
 use std::fmt;
 
+/// What `gate` is of a message that may pass.
+const MAY_PASS: &str = "passes if judged good";
+
+/// What `check` is of an item that is neither good nor refused.
+const NOT_MADE: &str = "not made";
+
 impl<'a, P: fmt::Write> Says for Json<'a, P> {
     fn said(&mut self, said: Said<'_>) -> Done {
         match said {
@@ -16,37 +22,52 @@ impl<'a, P: fmt::Write> Says for Json<'a, P> {
                 );
             }
             Said::Content(item, _) => self.noted(item),
-            Said::NotReached(_) => self.word("gate", "not reached"),
-            Said::Passes(_) => self.word("gate", "passes if judged good"),
+            Said::NotReached(_) => self.words(&[("gate", "not reached"), ("check", NOT_MADE)]),
+            Said::MayPass(_, _) => self.words(&[("gate", MAY_PASS), ("check", NOT_MADE)]),
+            Said::Answer(Answer::Yes(_)) => {
+                self.words(&[("gate", MAY_PASS), ("judge", "yes"), ("check", "good")]);
+            }
+            Said::Answer(Answer::No(why)) => {
+                self.words(&[
+                    ("gate", MAY_PASS),
+                    ("judge", "no"),
+                    ("reason", why.as_str()),
+                    ("check", "refused"),
+                ]);
+            }
             Said::Refused(refusal) => {
                 write!(self.page, ",\"gate\":\"refused\",\"why\":\"{refusal}\"");
+                self.word("check", "refused");
             }
-            Said::Stops(fault) => write!(self.page, ",\"gate\":\"stops\",\"why\":\"{fault}\""),
+            Said::Wrapped(_) => self.words(&[
+                ("gate", "refused"),
+                ("why", "OtherTag"),
+                ("check", "refused"),
+            ]),
+            Said::Stops(fault) => {
+                write!(self.page, ",\"gate\":\"stops\",\"why\":\"{fault}\"");
+                self.word("check", NOT_MADE);
+            }
             Said::Part(wrong) => {
                 let fault = wrong.fault;
                 self.word("part", wrong.name.as_str());
                 write!(self.page, ",\"part_fault\":\"{fault}\"");
             }
             Said::Untagged => self.word("untagged", UNTAGGED),
-            Said::Answer(Answer::Yes) => self.word("judge", "yes"),
-            Said::Answer(Answer::No(why)) => {
-                self.word("judge", "no");
-                self.word("reason", why.as_str());
-            }
             Said::Shortest => self.page.write_str(",\"shortest\":true"),
             Said::Differs(difference, place) => write!(
                 self.page,
                 ",\"shortest\":false,\"excess\":\"{difference}\",\"excess_offset\":{place}"
             ),
-            Said::Questions => {
+            Said::AllCovered => {
                 self.name("covered");
                 self.open();
             }
-            Said::Question(_, covered) => {
+            Said::Covered(_, _, covered) => {
                 self.next();
                 self.hex(covered);
             }
-            Said::LastQuestion => self.close(),
+            Said::LastCovered => self.close(),
             Said::End => self.page.write_str("}\n"),
             Said::Damaged(number, offset) => {
                 write!(self.page, "{{\"number\":{number},\"offset\":{offset}");
@@ -66,7 +87,6 @@ impl<'a, P: fmt::Write> Says for Json<'a, P> {
                 }
                 self.page.write_str("}\n");
             }
-            Said::Looks(_) => {}
         }
         self.page.end()
     }

@@ -5,7 +5,7 @@ use crate::shape::WrongPart;
 use crate::show::Item;
 use crate::verdict::Difference;
 use cbor_diag::Fault;
-use cose_gate_core::{End, GateFault, Refusal};
+use cose_gate_core::{End, GateFault, MessageKind, Refusal};
 use cose_notation::{Done, Keys, Shows, View};
 
 /// A form of output.
@@ -23,36 +23,36 @@ pub enum Said<'a> {
     Content(View<'a>, Option<Keys>),
     /// The gate stops at the item of this number, before it.
     NotReached(u64),
-    /// It may pass, if so many questions are answered by yes.
-    Passes(usize),
+    /// It may pass; the kind of the message, and how many signatures or MACs of it aren't checked.
+    MayPass(Option<MessageKind>, usize),
+    /// It may pass, and what the judge answers.
+    Answer(&'a Answer),
     /// The gate refuses it.
     Refused(Refusal),
+    /// The gate refuses it for this tag around a message.
+    Wrapped(u64),
     /// The gate stops.
     Stops(&'a GateFault<End>),
     /// The part that is wrong.
     Part(&'a WrongPart),
     /// It is what a message is but for its tag.
     Untagged,
-    /// What the judge answers.
-    Answer(&'a Answer),
     /// It is in canonical encoding.
     Shortest,
     /// It isn't: what comes first in it, and where in the input. All before it is as it should be.
     Differs(Difference, usize),
-    /// The bytes that each question covers follow.
-    Questions,
-    /// The number of a question, and what it covers.
-    Question(usize, View<'a>),
-    /// The last question was said.
-    LastQuestion,
+    /// The bytes that each signature or MAC covers follow.
+    AllCovered,
+    /// The kind of the message, which signature of it, and what that covers.
+    Covered(MessageKind, usize, View<'a>),
+    /// The last of these was said.
+    LastCovered,
     /// The item ends.
     End,
     /// An item begins that is damaged: its number and offset.
     Damaged(u64, usize),
     /// Its fault, where it begins, and if secrets are asked for what was read of it.
     Fault(Fault, usize, Option<&'a [u8]>),
-    /// What the input looks like that isn't binary.
-    Looks(&'static str),
 }
 
 /// So many bytes are shown before a fault, and so many from it on.

@@ -28,10 +28,11 @@ pub struct WrongPart {
 /// # Errors
 /// `Memory`.
 pub fn wrong_part(alloc: Global, item: &[u8]) -> Result<Option<WrongPart>, Stop> {
-    let Some((form, _, content)) = message_of(View::open(item)) else {
+    let Some(message) = message_of(View::open(item)) else {
         return Ok(None);
     };
-    let parts = parts_of(alloc, content.bytes())?;
+    let form = message.form;
+    let parts = parts_of(alloc, message.content.bytes())?;
     if parts.len() != form.parts.len().saturating_add(2) {
         return Ok(None);
     }

@@ -1,10 +1,12 @@
 //! The items, one after another.
 use crate::asking::Asking;
+use crate::looks::Looks;
 use crate::said::{AROUND, Said, Says};
 use crate::source::{Found, Source};
 use crate::verdict::say_verdict;
 use crate::words::Options;
 use cbor_diag::Fault;
+use cose_gate_program::CoseKeySet;
 use cose_notation::{Json, Look, Text, keys_in, mask, show_keys, show_message};
 use cose_reasons::{Stop, read_keys};
 use std::alloc::Global;
@@ -37,7 +39,8 @@ pub struct Item<'a> {
 /// which the gate stops. `keys` are the bytes of the file of keys, if the judge is to be asked.
 ///
 /// # Errors
-/// `NotHex` of external data, `NoKeys` and `OneKey`, and nothing is shown; `Input`, `Memory`,
+/// `NotHex` of external data, `NoKeys`, `TextKeys` and `OneKey`, and `Text` of an input that may be
+/// a secret in text, and nothing is shown; `Input`, `NoFile`, `NoDigit`, `HalfByte`, `Memory`,
 /// `Output` and `Damaged`, and what was read before is shown.
 pub fn show_as<R: io::Read + Drop, P: fmt::Write>(
     alloc: Global,
@@ -55,9 +58,9 @@ pub fn show_as<R: io::Read + Drop, P: fmt::Write>(
         options,
         aad: aad.as_slice(),
     };
-    let mut source = Source::new(alloc, input);
+    let mut source = Source::new(alloc, input, options.encoding);
     let set = match keys {
-        Some(bytes) => Some(read_keys(alloc, bytes)?),
+        Some(bytes) => Some(keys_of(alloc, bytes)?),
         None => None,
     };
     let mut asking = match &set {
@@ -78,6 +81,17 @@ pub fn show_as<R: io::Read + Drop, P: fmt::Write>(
     }
 }
 
+/// The key set that a file holds.
+fn keys_of(alloc: Global, bytes: &[u8]) -> Result<CoseKeySet, Stop> {
+    match read_keys(alloc, bytes) {
+        Err(Stop::NoKeys(error)) => match Looks::of(bytes) {
+            Some(kind) => Err(Stop::TextKeys(kind)),
+            None => Err(Stop::NoKeys(error)),
+        },
+        read => read,
+    }
+}
+
 fn show<R: io::Read + Drop, S: Says>(
     alloc: Global,
     request: Request<'_>,
@@ -89,9 +103,10 @@ fn show<R: io::Read + Drop, S: Says>(
     let mut stopped = None;
     for number in 1..u64::MAX {
         let found = source.find()?;
-        if number == 1 && !look.secrets && source.is_text()? {
-            say_looks(source, to)?;
-            return Err(Stop::Text);
+        if number == 1 && !look.secrets {
+            if let Some(kind) = source.text(found)? {
+                return Err(Stop::Text(kind));
+            }
         }
         match found {
             Found::Item(len) => {
@@ -109,10 +124,7 @@ fn show<R: io::Read + Drop, S: Says>(
                 to.said(Said::End)?;
                 source.leave(len);
             }
-            Found::End => {
-                say_looks(source, to)?;
-                break;
-            }
+            Found::End => break,
             Found::Damaged(fault) => {
                 show_damage(look, number, fault, source, to)?;
                 return Err(Stop::of_fault(fault, source.offset()));
@@ -120,14 +132,6 @@ fn show<R: io::Read + Drop, S: Says>(
         }
     }
     Ok(stopped)
-}
-
-/// Says what an input looks like that isn't binary.
-fn say_looks<R: io::Read + Drop, S: Says>(source: &Source<R>, to: &mut S) -> Result<(), Stop> {
-    if let Some(name) = source.looks() {
-        to.said(Said::Looks(name))?;
-    }
-    Ok(())
 }
 
 /// Shows what an item holds: keys, the parts of a message, or its notation.
@@ -158,6 +162,5 @@ fn show_damage<R: io::Read + Drop, S: Says>(
         return Ok(to.said(Said::Fault(fault, offset, None))?);
     }
     source.hold(fault.at.saturating_add(AROUND))?;
-    to.said(Said::Fault(fault, offset, Some(source.held())))?;
-    say_looks(source, to)
+    Ok(to.said(Said::Fault(fault, offset, Some(source.held())))?)
 }

@@ -1,7 +1,9 @@
 //! The input, of which one item is held.
+use crate::decoding::Decoding;
 use crate::looks::Looks;
+use crate::words::Encoding;
 use cbor_diag::{Fault, Walk, Why};
-use cose_reasons::Stop;
+use cose_reasons::{Stop, TextKind};
 use std::alloc::Global;
 use std::io;
 use std::io::{BufRead, BufReader};
@@ -28,12 +30,14 @@ pub struct Source<R> {
     /// Where it begins in the input.
     offset: usize,
     ended: bool,
-    looks: Looks,
+    decoding: Decoding,
+    /// Of an input that has to be binary.
+    looks: Option<Looks>,
 }
 
 impl<R: io::Read + Drop> Source<R> {
     /// An input of which nothing was read.
-    pub fn new(alloc: Global, reader: BufReader<R>) -> Source<R> {
+    pub fn new(alloc: Global, reader: BufReader<R>, encoding: Encoding) -> Source<R> {
         Source {
             reader,
             walk: Walk::new(alloc),
@@ -41,27 +45,34 @@ impl<R: io::Read + Drop> Source<R> {
             start: 0,
             offset: 0,
             ended: false,
-            looks: Looks::new(),
+            decoding: Decoding::new(encoding),
+            looks: match encoding {
+                Encoding::Binary => Some(Looks::new()),
+                _ => None,
+            },
         }
     }
 
-    /// What the input looks like so far, if it looks like text.
-    pub fn looks(&self) -> Option<&'static str> {
-        self.looks.name()
-    }
-
-    /// Whether the input looks like text; as long as it may, and has few bytes, more are read.
+    /// What the input looks like, if it looks like text; as long as it may, and has few bytes, more
+    /// are read. What begins with this, and is one item of CBOR, is no other text than these.
     ///
     /// # Errors
     /// `Input` and `Memory`.
-    pub fn is_text(&mut self) -> Result<bool, Stop> {
+    pub fn text(&mut self, found: Found) -> Result<Option<TextKind>, Stop> {
         for _ in 0..u64::MAX {
-            if self.ended || !self.looks.is_open() {
-                break;
+            match self.looks {
+                Some(looks) if looks.is_open() && !self.ended => self.read_on()?,
+                _ => break,
             }
-            self.read_on()?;
         }
-        Ok(self.looks.name().is_some())
+        let kind = match self.looks {
+            Some(looks) => looks.kind(),
+            None => None,
+        };
+        match (kind, found) {
+            (Some(TextKind::Other), Found::Item(len)) if len == self.held().len() => Ok(None),
+            _ => Ok(kind),
+        }
     }
 
     /// Where the item at hand begins in the input.
@@ -125,17 +136,18 @@ impl<R: io::Read + Drop> Source<R> {
         self.forget();
         let count = match self.reader.fill_buf() {
             Ok(block) => {
-                self.looks.take(block);
-                match self.held.extend_from_slice(block) {
-                    Ok(()) => block.len(),
-                    Err(_) => return Err(Stop::Memory),
+                if let Some(looks) = &mut self.looks {
+                    looks.take(block);
                 }
+                self.decoding.take(block, &mut self.held)?;
+                block.len()
             }
-            Err(_) => return Err(Stop::Input),
+            Err(error) => return Err(Stop::of_input(error.kind())),
         };
         self.reader.consume(count);
         if count == 0 {
             self.ended = true;
+            self.decoding.end()?;
         }
         Ok(())
     }

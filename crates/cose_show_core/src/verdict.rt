@@ -7,7 +7,7 @@ use crate::show::{Item, Request};
 use cbor_diag::{Event, Excess, Fault, NotWritten, Place, Step, Walk, first_excess};
 use ciborium_ll::Header;
 use cose_gate_core::{Recorder, Refusal, Verdict};
-use cose_notation::{View, lacks_tag, mask};
+use cose_notation::{View, lacks_tag, mask, message_of};
 use cose_reasons::Stop;
 use std::alloc::Global;
 use std::fmt;
@@ -105,7 +105,7 @@ pub fn say_verdict<S: Says>(
     let mut written = Comparing::new(bytes);
     let mut counter = Counter::new();
     let mut recorder = Recorder::new(alloc, None);
-    let verdict = if asking.is_some() || options.questions {
+    let verdict = if asking.is_some() || options.covered {
         gate_item(alloc, aad, bytes, &mut written, &mut recorder)?
     } else {
         gate_item(alloc, aad, bytes, &mut written, &mut counter)?
@@ -113,16 +113,19 @@ pub fn say_verdict<S: Says>(
     let asked = recorder.asked();
     match &verdict {
         Ok(Some(Verdict::Passed)) => {
-            to.said(Said::Passes(counter.count.saturating_add(asked.len())))?;
+            let answer = match asking {
+                Some(asking) => asking.answer(alloc, aad, bytes, asked)?,
+                None => None,
+            };
+            match (&answer, asked.first()) {
+                (Some(answer), _) => to.said(Said::Answer(answer))?,
+                (None, Some(first)) => to.said(Said::MayPass(Some(first.kind), asked.len()))?,
+                (None, None) => to.said(Said::MayPass(counter.kind, counter.count))?,
+            }
         }
         Ok(Some(Verdict::Refused(refusal))) => say_refusal(alloc, *refusal, bytes, to)?,
         Ok(None) => {}
         Err(fault) => to.said(Said::Stops(fault))?,
-    }
-    if let Some(asking) = asking {
-        if let Some(answer) = asking.answer(alloc, aad, bytes, asked)? {
-            to.said(Said::Answer(&answer))?;
-        }
     }
     if options.strict && verdict == Ok(Some(Verdict::Passed)) {
         match written.difference() {
@@ -133,13 +136,14 @@ pub fn say_verdict<S: Says>(
             None => to.said(Said::Shortest)?,
         }
     }
-    if options.questions {
-        to.said(Said::Questions)?;
+    if options.covered {
+        to.said(Said::AllCovered)?;
         for (index, question) in asked.iter().enumerate() {
             let masked = mask(alloc, options.look, question.structure.as_slice())?;
-            to.said(Said::Question(index.saturating_add(1), masked.view()))?;
+            let number = index.saturating_add(1);
+            to.said(Said::Covered(question.kind, number, masked.view()))?;
         }
-        to.said(Said::LastQuestion)?;
+        to.said(Said::LastCovered)?;
     }
     Ok(verdict.is_err())
 }
@@ -151,7 +155,12 @@ fn say_refusal<S: Says>(
     item: &[u8],
     to: &mut S,
 ) -> Result<(), Stop> {
-    to.said(Said::Refused(refusal))?;
+    match refusal {
+        Refusal::OtherTag(tag) if message_of(View::open(item)).is_some() => {
+            to.said(Said::Wrapped(tag))?;
+        }
+        _ => to.said(Said::Refused(refusal))?,
+    }
     match refusal {
         Refusal::Shape(_) => {
             if let Some(wrong) = wrong_part(alloc, item)? {
