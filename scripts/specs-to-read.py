@@ -4,8 +4,9 @@ functions and proofs, which the checker compares with the public clauses, so not
 
   scripts/specs-to-read.py                        each file, the lowest first, with how many of its definitions are reached, and the names if it
                                                   is a part of them
-  scripts/specs-to-read.py DOOR..                 those that the clauses of these calls, types or traits reach, as gate, cose_gate::gate,
-                                                  Label::cmp_canonical or Label
+  scripts/specs-to-read.py DOOR..                 those that the clauses of these calls, types, traits or crates reach, as gate, cose_gate::gate,
+                                                  Label::cmp_canonical, Label or coset_keys; of a program's crate, as cose_sift, also those
+                                                  of the calls that it imports from crates here
   scripts/specs-to-read.py --into FILE [DOOR..]   writes the clauses of the doors, if there are any, and the definitions into a file
   scripts/specs-to-read.py --unread               the files of which no definition is reached
 
@@ -236,9 +237,20 @@ def clauses_of(text, at):
     return found
 
 
+def called_by(program):
+    """The calls that a program's sources import from crates here; none if the name isn't that of a program."""
+    source = CRATES / program / "src"
+    if not (source / "main.rt").exists():
+        return set()
+    text = "\n".join(without_comments(file.read_text(encoding="utf-8"), "//") for file in sorted(source.rglob("*.rt")))
+    paths = [path.partition("::") for path in re.findall(r"^use ([^;]+);", text, re.M)]
+    return {name for crate, _, names in paths if (CRATES / crate).exists() for name in re.findall(r"(?<!\w)[a-z_]\w*(?!\w|::)", names)}
+
+
 def main(arguments):
     into = arguments[1] if arguments[:1] == ["--into"] else None
     doors = arguments[2:] if into else [it for it in arguments if it != "--unread"]
+    imported_by = {name: door for door in doors for name in called_by(door)}
     specs, passed = read_specs()
     reached, due, begun = set(), [], {}
 
@@ -265,7 +277,8 @@ def main(arguments):
         if crate in LEFT_OUT or not (folder / "lib.rt").exists() and not crate.startswith("cose_"):
             continue
         for own, clause, text in public_clauses(crate, bool(doors)):
-            if mine := [it for it in doors if it in own or it in (f"{crate}::{name}" for name in own)]:
+            of_program = [imported_by[name] for name in own if name in imported_by]
+            if mine := [it for it in doors if it == crate or it in own or it in (f"{crate}::{name}" for name in own)] + of_program:
                 begun.setdefault((mine[0], crate), []).append(clause)
             if mine or not doors:
                 follow(clause, *imported(text, True))
