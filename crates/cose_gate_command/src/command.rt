@@ -27,8 +27,9 @@ pub const GATE: Takes<'static> = Takes {
 
 /// The program over the arguments after its name, if `keys` is what the file holds that they name,
 /// or `fault` says why it can't be read. If they aren't its arguments nothing is read, the first
-/// line on `err` is `USAGE`, lines after it begin with two blanks, and the status is 2. Lines and statuses are else those of `run_with`; if
-/// KEYS can't be used, a line that begins with two blanks says why, and nothing else of the file.
+/// line on `err` is `USAGE`, lines after it begin with two blanks, and the status is 2. Lines and
+/// statuses are else those of `run_with`; if KEYS can't be used, a line that begins with two blanks
+/// says why, and nothing else of the file.
 pub fn program<'a, R: Read, W: Write, E: Write>(
     alloc: Global,
     all: &'a [String],
