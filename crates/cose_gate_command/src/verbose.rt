@@ -43,21 +43,16 @@ pub(crate) fn end_unbegun<E: Write>(
     why.status()
 }
 
-/// How a run with these arguments is told.
-fn manner_of(asked: Arguments<'_>) -> Manner
-    ensures verbose { result.verbose ≡ asked.entry.verbose }
-    ensures kept { result.kept ≡ items_by asked.entry.quiet asked.entry.summary }
+/// Which items have a line with these options.
+fn kept_by(quiet: bool, summary: bool) -> Items
+    ensures { result ≡ items_by quiet summary }
 {
-    let kept = if asked.summary {
+    if summary {
         Items::Hidden
-    } else if asked.quiet {
+    } else if quiet {
         Items::Refused
     } else {
         Items::All
-    };
-    Manner {
-        verbose: asked.verbose,
-        kept,
     }
 }
 
@@ -94,7 +89,10 @@ pub(crate) fn run_asked<'f, 'd, R: Read, W: Write, E: Write>(
         note: &note,
         taken: &taken,
     };
-    let manner = manner_of(asked);
+    let manner = Manner {
+        verbose: asked.verbose,
+        kept: kept_by(asked.quiet, asked.summary),
+    };
     let was = Log::new().and(&*err);
     let mut told = Log::new();
     match begin(alloc, file.bytes, asked.aad) {
