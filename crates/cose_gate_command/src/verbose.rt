@@ -60,9 +60,10 @@ fn kept_by(quiet: bool, summary: bool) -> Items
 /// more, in lines that begin with two blanks: of a refusal what it means, and why the judge said
 /// no; of a stop the number and the offset of the item, what is wrong with it, and what to do; of
 /// KEYS its name, and what is wrong with it. Else a line says of KEYS alone what is wrong with it.
-/// If it is quiet, an item that passed has no line, and of a summary no item has one. `file` tells of the file KEYS. All are one run
-/// over one type of reader, judge and teller: with two runs the compiler would no longer put what
-/// both call into one function, and each message would take up to 6 % more instructions.
+/// If it is quiet, an item that passed has no line, and in a summary no item has one. `file` tells
+/// of the file KEYS. All are one run over one type of reader, judge and teller: with two runs the
+/// compiler would no longer put what both call into one function, and each message would take up to
+/// 6 % more instructions.
 pub(crate) fn run_asked<'f, 'd, R: Read, W: Write, E: Write>(
     alloc: Global,
     asked: Arguments<'d>,
