@@ -115,7 +115,7 @@ said_all {W} w s s' ns first now verbose kept e begun empty loud still is =
     let b : s'.was ≡ first ∷ [] = ap (λ (z : SaidLog W). z.was) end ∙ begun in
     let t : s'.told ≡ ns = ap (λ (z : SaidLog W). z.told) end ∙ ap (λ (z : List Notice). z ++ ns) empty in
     subst (λ (z : Bool). SaysSince w z kept (first ∷ []) now ns) v
-    (subst (λ (z : Bool). SaysSince w s'.verbose z (first ∷ []) now ns) q
+    (subst (λ (z : Items). SaysSince w s'.verbose z (first ∷ []) now ns) q
     (subst (λ (z : List W). SaysSince w s'.verbose s'.kept z now ns) b
     (subst (λ (z : List Notice). SaysSince w s'.verbose s'.kept s'.was now z) t is)))
 

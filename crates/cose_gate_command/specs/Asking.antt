@@ -23,7 +23,7 @@ use Rattle.cose_gate_command.specs.Arguments.{AskArguments}
 use Rattle.cose_gate_command.specs.Ends.{bounds_by}
 use Rattle.cose_gate_command.specs.Lines.{form_of, told_as}
 use Rattle.cose_gate_command.specs.RunLines.{SaysAll}
-use Rattle.cose_gate_command.specs.declared.line_writer.Items.TheVariants as items
+use Rattle.cose_gate_command.specs.declared.line_writer.Items.TheVariants as shows
 use Rattle.cose_gate_command.specs.declared.not_run.NotRun.{NotRun}
 use Rattle.cose_gate_command.specs.declared.not_run.NotRun.TheVariants as unrun
 use Rattle.cose_gate_command.specs.declared.options.Form.{Form}
@@ -126,7 +126,7 @@ pub data AsksByRules {W F E G : Type 0} (w : Writes W F) (e : Writes E G) (limit
     (old new : Devices)
     (out out' : W) (err err' : E) (status : ℕ) : Type 0 where
   not_begun : (why : Unbegun) → BeginsNot keys aad why → status ≡ begin.status_of why → new ≡ old
-      → out' ≡ out → SaysAll e false items.All fault keys err err' (notice.NotBegun why ∷ [])
+      → out' ≡ out → SaysAll e false shows.All fault keys err err' (notice.NotBegun why ∷ [])
       → AsksByRules w e limits token keys fault aad old new out out' err err' status
   after_run : (b d : List ℕ) → keys ≡ Some b → aad ≡ Some d
       → (ks : List KeyFields) → HasItem HasKeySet b ks

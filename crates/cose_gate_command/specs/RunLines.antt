@@ -11,7 +11,7 @@ use Rattle.cose_gate_program.specs.declared.telling.Notice.{Notice}
 use Rattle.cose_gate_program.specs.declared.telling.Notice.TheVariants as notice
 use Rattle.cose_gate_command.specs.KeyFiles.{indented, reason_line}
 use Rattle.cose_gate_command.specs.declared.line_writer.Items.{Items}
-use Rattle.cose_gate_command.specs.declared.line_writer.Items.TheVariants as items
+use Rattle.cose_gate_command.specs.declared.line_writer.Items.TheVariants as shows
 use Rattle.cose_gate_command.specs.declared.line_writer.Manner.{Manner}
 
 abbrev pub has_passed : Verdict → Bool
@@ -21,13 +21,13 @@ has_passed (Refused r) = false
 -- which items have a line: with --summary none, with --quiet those that were refused
 abbrev pub items_by : Bool → Bool → Items
 items_by quiet summary =
-    if summary then items.Hidden else (if quiet then items.Refused else items.All)
+    if summary then shows.Hidden else (if quiet then shows.Refused else shows.All)
 
 -- an item without a line
 abbrev pub hides : Items → Verdict → Bool
-hides items.All v = false
-hides items.Refused v = has_passed v
-hides items.Hidden v = true
+hides shows.All v = false
+hides shows.Refused v = has_passed v
+hides shows.Hidden v = true
 
 -- a notice without a line: only items have none
 abbrev pub is_silent : Items → Notice → Bool

@@ -12,7 +12,7 @@ use std::alloc::Global;
 use std::fmt;
 
 /// The arguments of a program.
-#[derive(Debug, Clone, Copy, PartialEq, Eq)]
+#[derive(Clone, Copy)]
 pub struct Takes<'a> {
     /// The name of the program.
     pub program: &'a str,
@@ -32,18 +32,23 @@ pub fn say_wrong<W: Write>(alloc: Global, words: Option<&[String]>, takes: &Take
     ensures { AddsReasons W.Write true out.old out.new }
 {
     let mut text = String::new(alloc);
-    match words {
-        Some(words) => put_wrong(words, takes, &mut Page::new(&mut text)),
-        None => Page::new(&mut text).write_str("an argument isn't UTF-8"),
-    }
+    put_wrong(words, takes, &mut Page::new(&mut text));
     write_more(text.as_str(), "", out);
     write_more(takes.program, " --help has all options", out);
     hand_on(out);
 }
 
-/// Writes what is wrong with arguments: an option that there isn't, or one without its word, or the
+/// Writes what is wrong with arguments.
+fn put_wrong<P: fmt::Write>(words: Option<&[String]>, takes: &Takes<'_>, page: &mut Page<'_, P>) {
+    match words {
+        Some(words) => put_fault(words, takes, page),
+        None => page.write_str("an argument isn't UTF-8"),
+    }
+}
+
+/// Writes what is wrong with these: an option that there isn't, or one without its word, or the
 /// number of other words.
-fn put_wrong<P: fmt::Write>(words: &[String], takes: &Takes<'_>, page: &mut Page<'_, P>) {
+fn put_fault<P: fmt::Write>(words: &[String], takes: &Takes<'_>, page: &mut Page<'_, P>) {
     let mut others = 0usize;
     let mut last = "";
     let mut waiting = "";

@@ -43,21 +43,16 @@ pub(crate) fn end_unbegun<E: Write>(
     why.status()
 }
 
-/// How a run with these arguments is told.
-fn manner_of(asked: Arguments<'_>) -> Manner
-    ensures verbose { result.verbose ≡ asked.entry.verbose }
-    ensures kept { result.kept ≡ items_by asked.entry.quiet asked.entry.summary }
+/// Which items have a line with these options.
+fn kept_by(quiet: bool, summary: bool) -> Items
+    ensures { result ≡ items_by quiet summary }
 {
-    let kept = if asked.summary {
+    if summary {
         Items::Hidden
-    } else if asked.quiet {
+    } else if quiet {
         Items::Refused
     } else {
         Items::All
-    };
-    Manner {
-        verbose: asked.verbose,
-        kept,
     }
 }
 
@@ -65,7 +60,7 @@ fn manner_of(asked: Arguments<'_>) -> Manner
 /// more, in lines that begin with two blanks: of a refusal what it means, and why the judge said
 /// no; of a stop the number and the offset of the item, what is wrong with it, and what to do; of
 /// KEYS its name, and what is wrong with it. Else a line says of KEYS alone what is wrong with it.
-/// If it is quiet, an item that passed has no line, and of a summary no item has one. `file` tells
+/// If it is quiet, an item that passed has no line, and in a summary no item has one. `file` tells
 /// of the file KEYS. All are one run over one type of reader, judge and teller: with two runs the
 /// compiler would no longer put what both call into one function, and each message would take up to
 /// 6 % more instructions.
@@ -95,7 +90,10 @@ pub(crate) fn run_asked<'f, 'd, R: Read, W: Write, E: Write>(
         note: &note,
         taken: &taken,
     };
-    let manner = manner_of(asked);
+    let manner = Manner {
+        verbose: asked.verbose,
+        kept: kept_by(asked.quiet, asked.summary),
+    };
     let was = Log::new().and(&*err);
     let mut told = Log::new();
     match begin(alloc, file.bytes, asked.aad) {

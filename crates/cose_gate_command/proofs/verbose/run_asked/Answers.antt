@@ -19,8 +19,7 @@ returns-in-Ok-clause-ran g c =
     let said = c.run_told.new.teller in
     let name : said.out.ghost_name ≡ _ = same_writer _ _ all told ∙ c.new-teller.ensures.kept in
     let says : SaysSince g.E.Write c.args.asked.verbose (items_by c.args.asked.quiet c.args.asked.summary) (c.args.err.now ∷ []) said.out.now all
-    = said_all g.E.Write _ _ all _ _ _ _ told c.new-teller.ensures.was c.new-teller.ensures.told
-    (ap (λ (m : Manner). m.verbose) c.new-teller.ensures.manner ∙ c.manner_of.ensures.verbose) (ap (λ (m : Manner). m.kept) c.new-teller.ensures.manner ∙ c.manner_of.ensures.kept) said.is in
+    = said_all g.E.Write _ _ all _ _ _ _ told c.new-teller.ensures.was c.new-teller.ensures.told (search rules) (ap (λ (m : Manner). m.kept) c.new-teller.ensures.manner ∙ c.kept_by.ensures) said.is in
     search rules))))
 
 pub returns-clause-ran : goal.returns-clause-ran
