@@ -59,10 +59,11 @@ fn start(rt: &HostRuntime) -> Result<u8, NotRun> {
     if let Some(page) = page_for(words.as_slice(), HELP, VERSION) {
         return write_page(page, &mut Io::new(rt.stdout()));
     }
-    match words.as_slice() {
-        words if is_for_stream(words) => start_stream(rt, words),
-        words => run(rt, words, read_keys(rt, words)?),
+    let words = words.as_slice();
+    if is_for_stream(words) {
+        return start_stream(rt, words);
     }
+    run(rt, words, read_keys(rt, words)?)
 }
 
 /// What the file KEYS holds, if the arguments name one.

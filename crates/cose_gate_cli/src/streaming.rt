@@ -12,10 +12,14 @@ use std::fs;
 
 /// Whether `--stream` or `--payload` is among the words before `--`.
 pub fn is_for_stream(words: &[String]) -> bool {
-    words
-        .iter()
-        .take_while(|word| word.as_str() != "--")
-        .any(|word| matches!(word.as_str(), "--stream" | "--payload"))
+    for word in words {
+        match word.as_str() {
+            "--stream" | "--payload" => return true,
+            "--" => return false,
+            _ => {}
+        }
+    }
+    false
 }
 
 /// Checks the message on standard input, and returns the status.
