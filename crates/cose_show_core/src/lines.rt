@@ -36,15 +36,8 @@ impl<'a, P: fmt::Write> Says for Text<'a, P> {
             Said::Answer(Answer::No(why)) => writeln!(page, "  check: refused: Judged: {why}"),
             Said::Answer(Answer::Yes(id)) => {
                 page.write_str("  check: the MAC is good");
-                match id {
-                    Some(id) if id.view().is_empty() => {
-                        page.write_str(", under the key without an id");
-                    }
-                    Some(id) => {
-                        page.write_str(", under ");
-                        self.id(id.view());
-                    }
-                    None => {}
+                if let Some(id) = id {
+                    write_key(id.view(), self);
                 }
                 self.page.write_str("\n");
             }
@@ -113,6 +106,16 @@ impl<'a, P: fmt::Write> Says for Text<'a, P> {
         }
         self.page.end()
     }
+}
+
+/// Writes under which key, by its id.
+fn write_key<P: fmt::Write>(id: View<'_>, to: &mut Text<'_, P>) {
+    if id.is_empty() {
+        to.page.write_str(", under the key without an id");
+        return;
+    }
+    to.page.write_str(", under ");
+    to.id(id);
 }
 
 /// Writes what isn't checked of a message that may pass, and what does check it.

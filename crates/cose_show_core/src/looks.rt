@@ -17,7 +17,7 @@ const ENOUGH: usize = 65536;
 #[derive(Debug, Clone, Copy, PartialEq, Eq)]
 pub struct Looks {
     len: usize,
-    /// How many bytes are as in these, of those that were there.
+    /// Whether they begin as these do, as far as they go.
     is_pem: bool,
     is_jwt: bool,
     /// Whether all are of hex, of base64, of a token, or of text.

@@ -84,8 +84,8 @@ fn difference_in(step: Step) -> Difference {
 }
 
 /// Says what the gate would say of an item, if its judge said yes to each question, and what else
-/// was asked for; and whether the gate stops at it. The questions are kept if they are to be shown
-/// or answered.
+/// was asked for; and whether the gate stops at it. The questions are kept if they are to be
+/// answered, or what they cover is to be shown.
 ///
 /// # Errors
 /// `Output` and `Memory`.
