@@ -114,16 +114,16 @@ for size in (0, 1, 23, 24, 4095, 4096, 4097, 60_000):
     good = mac0(payload)
     length, place = len(good), 7 + len(head(2, size))
     expect(0, f"genuine, payload of {size} at {place}", good, payload=payload)
-    expect(1, "not genuine", good, of=OTHER)
+    expect(1, "no MAC that is good", good, of=OTHER)
     for more in (b"\xff", bytes(5000), good):
         expect(1, f"extraneous data after {length} bytes", good + more)
-        expect(1, "not genuine", good + more, of=OTHER)
+        expect(1, "no MAC that is good", good + more, of=OTHER)
         expect_question(1, b"", good + more)
     # a byte of the payload, of the tag
     for at in {place + size // 2, length - 1} if size else {length - 1}:
         changed = bytearray(good)
         changed[at] ^= 1
-        expect(1, "not genuine", bytes(changed))
+        expect(1, "no MAC that is good", bytes(changed))
     for at in {0, 1, 2, length // 2, length - 1}:
         expect(4, "decode", good[:at])
         expect_question(4, b"", good[:at])
@@ -147,7 +147,7 @@ expect(4, "not tagged", small[1:])
 expect(4, "other tag", mac0(b"hello", tag=97))
 expect(4, "other tag", mac0(b"hello", tag=1))
 expect(4, "other tag", b"\xd9\xd9\xf7" + small)
-expect(1, "not genuine", mac0(b"hello", tag=18))
+expect(1, "no MAC that is good", mac0(b"hello", tag=18))
 expect(4, "shape", b"\xd1\x80")
 expect(4, "shape", mac0(b"hello", carried=b"\x18\x2a"))
 expect(4, "detached", mac0(b"hello", carried=b"\xf6"))

@@ -1,7 +1,7 @@
 #!/usr/bin/env python3
 """signatures.py CRATE [NAME..]: prints the public calls of a crate that has a CALLING.md, each with its clauses as they are in the source: the
-free functions, the types' own methods and the traits that it passes on from the crates named below. With NAME, of a function or a type, only
-these. Implementations of traits and laws are left out."""
+free functions, the types' own methods and the traits that it passes on from the crates named below; before a type's methods its public fields
+or its cases. With NAME, of a function or a type, only these. Implementations of traits and laws are left out."""
 import pathlib
 import re
 import sys
@@ -76,6 +76,18 @@ def blocks(text):
                 yield head, line.start() + len(found[1] or "") + len(found[2] or "")
 
 
+def types(text):
+    """The public structs and enums of a source: of each its name, and its head with its public fields or its cases."""
+    for it in re.finditer(r"^pub (struct|enum) (\w+)([^;{(]*)(;|\(.*?\);|\{.*?^\})", text, re.M | re.S):
+        inside = re.sub(r"#\[.*?\]|^ *ghost [^;]*;", "", it[4], flags=re.M | re.S)
+        if it[1] == "struct" and inside[0] == "{":
+            fields = re.findall(r"^    pub ([^\n]*),$", inside, re.M)
+            inside = "{ " + ", ".join(fields + ["..."] * (len(fields) < len(re.findall(r"^    (?:pub(?:\(\w+\))? )?\w+:", inside, re.M)))) + " }"
+        elif it[1] == "struct" and "pub" not in inside:
+            inside = ""
+        yield it[2], re.sub(r"\s+", " ", f"{it[1]} {it[2]}{it[3].rstrip()} {inside.rstrip(';')}").replace(", }", " }").strip()
+
+
 def owner_of(head):
     """The name of the trait or type in a head."""
     return re.search(r"\w+", re.sub(r"^(trait|impl(<[^{]*?>)?) (?=\w)", "", head))[0] if head else ""
@@ -84,6 +96,7 @@ def owner_of(head):
 def signatures(page, wanted):
     """The lines of a crate's calls; of all, if none is wanted by its name."""
     names, _ = passed_on(page)
+    shapes = {}
     root = (CRATES / page / "src/lib.rt").read_text(encoding="utf-8")
     found, below = {}, set()
     for crate in PAGES[page]:
@@ -95,6 +108,7 @@ def signatures(page, wanted):
             if "laws" in file.parts or file.stem == "laws":
                 continue
             text = re.sub(r"^ *//.*\n", "", file.read_text(encoding="utf-8"), flags=re.M)
+            shapes.update((name, shape) for name, shape in types(text) if name in names)
             for head, at in blocks(text):
                 one, clauses = function(text, at)
                 name = owner_of(head) or re.match(r"fn (\w+)", one)[1]
@@ -103,7 +117,11 @@ def signatures(page, wanted):
                     found.setdefault(head, []).append((one, clauses))
         below.update(re.match(r"fn (\w+)", it[0])[1] for it in found.get("", []))
     out = []
+    for name in shapes.keys() - {owner_of(head) for head in found}:
+        found[f"impl {name}"] = []
     for head, methods in sorted(found.items(), key=lambda it: (owner_of(it[0]), it[0])):
+        if (shape := shapes.pop(owner_of(head), None)) and (not wanted or owner_of(head) in wanted):
+            out.append(shape)
         shown = [it for it in methods if not wanted or wanted & {owner_of(head), re.match(r"fn (\w+)", it[0])[1]}]
         margin = "  " if head else ""
         if head and shown:

@@ -30,7 +30,7 @@ static uint32_t check(bytes keys, const char *path) {
       }
       break;
     case COSE_GATE_SOME_REFUSED:
-      printf("%s: not genuine\n", path);
+      printf("%s: no MAC that is good\n", path);
       break;
     case COSE_GATE_KEYS:
       printf("%s: no key set\n", path);

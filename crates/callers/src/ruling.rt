@@ -10,7 +10,7 @@ use cose_gate::{CoseKey, Counts, Decoder, End, GateFault, Mem, Silent, gate};
 use cose_ruled::{RuledJudge, Verify};
 use std::alloc::Global;
 
-/// Finds a signature good that is the covered bytes. It stands where your crypto's call is put.
+/// Finds a signature good that is the covered bytes. Your call of a library is in its place.
 #[derive(Clone, Copy)]
 pub struct Copies;
 

@@ -75,7 +75,7 @@ fn of_value(to: &mut Out, value: &Value) {
     }
 }
 
-/// How a time stands to a number of seconds.
+/// How a time compares with a number of seconds.
 pub fn against(to: &mut Out, item: &str, seconds: &str) {
     let seconds = to.number(seconds);
     if let Some(value) = read::<Value>(to, item) {

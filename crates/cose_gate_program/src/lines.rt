@@ -22,7 +22,7 @@ use itoa::write_digits;
 /// an end of at most 23.
 const LINE: usize = 72;
 
-/// What is told of an input that has ended, behind the name of that fault.
+/// What a line says of an input that has ended, after the name of that fault.
 const ENDED: &[u8] = b"(EndOfFile)";
 
 /// The bytes of a number at most.
@@ -122,7 +122,7 @@ fn write_fault<W: Write>(fault: &GateFault<InputFault>, out: &mut W)
     }
 }
 
-/// What is told of a fault of the input behind its name.
+/// What a line says of a fault of the input after its name.
 fn input_detail(error: &de::Error<InputFault>) -> &'static [u8]
     ensures { result.now ≡ spec.input_detail error.now }
 {
@@ -132,7 +132,7 @@ fn input_detail(error: &de::Error<InputFault>) -> &'static [u8]
     }
 }
 
-/// The text of a fault of decoding, if behind the name of a reader's fault `io` is told.
+/// The text of a fault of decoding, with `io` after the name of a reader's fault.
 fn write_decode_fault<E, W: Write>(error: &de::Error<E>, io: &[u8], out: &mut W)
     ensures { Wrote W.Write out.old out.new (spec.decode_text io.now error.now) }
 {

@@ -11,8 +11,8 @@ use ciborium_ll::Float;
 use std::cmp::Ordering;
 
 impl Timestamp {
-    /// How this time stands to a whole number of seconds since 1970-01-01T00:00:00Z, exactly, also
-    /// if it is a float; `None` if it is a NaN, which is no number.
+    /// How this time compares with a whole number of seconds since 1970-01-01T00:00:00Z, exactly,
+    /// also if it is a float; `None` if it is a NaN, which is no number.
     pub fn partial_cmp_seconds(&self, seconds: i64) -> Option<Ordering>
         ensures { result ≡ time_against (time_view self.now) seconds }
     {
@@ -23,7 +23,7 @@ impl Timestamp {
     }
 }
 
-/// How a float stands to a whole number.
+/// How a float compares with a whole number.
 fn float_cmp(float: Float, whole: i64) -> Option<Ordering>
     ensures { result ≡ against (number_of float) whole }
 {
@@ -52,7 +52,7 @@ fn bits_cmp(width: u32, places: u32, bits: u64, whole: i64) -> Option<Ordering>
     Some(signed_cmp(negative, size, power, whole, least))
 }
 
-/// How an infinity stands to every number; `None` if the fraction makes it a NaN.
+/// How an infinity compares with every number; `None` if the fraction makes it a NaN.
 fn infinite_cmp(negative: bool, fraction: u64) -> Option<Ordering>
     ensures { (n : ℤ) → result
         ≡ against (if nat_eq fraction 0 then infinite negative else no_number) n }
