@@ -2,8 +2,11 @@
 //! is read as it is.
 #![tactic(auto)]
 
+mod floats;
+
+use crate::floats::{array_of, number_of};
 use ciborium::value::Value;
-use ciborium::{Mem, cbor, from_reader, into_writer};
+use ciborium::{Float, Mem, cbor, from_reader, into_writer};
 use ciborium_ll::{Decoder, Header as Head};
 use coset_base::{CborSerializable, CoseError, Header, HeaderBuilder, iana};
 use std::alloc::Global;
@@ -16,6 +19,9 @@ fn main(rt: HostRuntime) -> anyhow::Result<()> {
     println!(rt; "{value:?}")?;
     let (station, numbers): (String, Vec<u64>) = from_reader(alloc, &mut bytes.as_slice())?;
     println!(rt; "{station} {numbers:?}")?;
+    println!(rt; "{:?}", array_of(alloc, 1.5)?)?;
+    println!(rt; "{}", number_of(Float::Half(0x3e00)))?;
+    println!(rt; "{}", number_of(Float::Half(0x8001)))?;
     println!(rt; "{:?}", sum(b"\x83\x01\x18\x64\x19\x01\x00"))?;
     let bytes = header(alloc)?.to_vec(alloc)?;
     println!(rt; "{}", hex::encode(alloc, bytes.as_slice())?)?;
