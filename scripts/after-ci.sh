@@ -85,8 +85,8 @@ rows() {
 3|/dev/null|cose-show: the file can't be opened|$nobody cose-show $T/unreadable
 3|/dev/null|  nosuch: no such file|../cose-show nosuch
 3|/dev/null|cose-show: KEYS can't be read|cose-show --keys nosuch one.cbor
-2|/dev/null|usage: scripts/c-library.sh [left] STEP.., and STEP is c, rust, go, python, image, compare, memory or valgrind|../scripts/c-library.sh
-2|/dev/null|usage: scripts/c-library.sh [left] STEP.., and STEP is c, rust, go, python, image, compare, memory or valgrind|../scripts/c-library.sh left
+2|/dev/null|usage: scripts/c-library.sh [left] STEP.., and STEP is c, rust, go, python, es256, image, compare, memory or valgrind|../scripts/c-library.sh
+2|/dev/null|usage: scripts/c-library.sh [left] STEP.., and STEP is c, rust, go, python, es256, image, compare, memory or valgrind|../scripts/c-library.sh left
 70|/dev/null|c-library.sh: rt isn't in PATH: it comes with Rattle's kit, KIT/bin|env -u RT_KIT CRATES=$T PATH=/usr/bin:/bin ../scripts/c-library.sh c
 # what passes, with each option
 0|one.cbor|passed 1, refused 0|cose-gate --strict keys.cbor 01 < one.cbor

@@ -1,7 +1,8 @@
-"""Signatures that the caller verifies: COSE_Sign1 with ES256 (RFC 9053, section 2.1), by `ask_ruled` and `pass_digests` of cose_gate.py, and
+"""Signatures that the caller verifies: COSE_Sign1 with ES256 (RFC 9053, section 2.1), by `ask_ruled` and `pass_digests` of cose_gate, and
 of one message by `verify`. It makes keys and messages with Debian's python3-cbor2 and python3-cryptography, spoils some, and prints what
 passes: es256.py LIBRARY. Build and run: `bash scripts/c-library.sh python`."""
 
+import os
 import sys
 
 import cbor2
@@ -9,6 +10,7 @@ from cryptography.exceptions import InvalidSignature
 from cryptography.hazmat.primitives import hashes
 from cryptography.hazmat.primitives.asymmetric import ec, utils
 
+import cose_gate
 from cose_gate import Gate, Refused
 
 ALG, CRIT, KID, ES256, SIGN1 = 1, 2, 4, -7, 18
@@ -78,6 +80,18 @@ def main(words):
             gate.verify(keys, aad, message, is_good)
         except Refused as fault:
             assert str(fault) == why, fault
+        else:
+            raise AssertionError("taken: " + why)
+
+    # The same by the package alone.
+    os.environ["COSE_GATE_LIBRARY"] = words[1]
+    for lent in (image, bytearray(image), memoryview(image)):
+        assert cose_gate.verify(lent, keys, aad) == bytes(1 << 20)
+    for message, why in ((spoiled, "Judged"), (critical, items[3].why), (b"", "Decode"), (image + b"\xff", "ExtraneousData")):
+        try:
+            cose_gate.verify(message, keys, aad)
+        except Refused as fault:
+            assert str(fault) == why, (fault, why)
         else:
             raise AssertionError("taken: " + why)
 
