@@ -97,8 +97,8 @@ rows() {
 3|/dev/null|cose-show: nosuch: no such file|../cose-show --keys nosuch one.cbor
 3|/dev/null|cose-show: $T/k.jwk is no key set: it begins with {, as a JSON Web Key does: cose-key $T/k.jwk > keys.cbor|echo '{"kty":"oct","k":"AAEC"}' > $T/k.jwk && cose-show --keys $T/k.jwk one.cbor
 3|/dev/null|cose-show: $T/k.hex is no key set: it is text in hex, not binary: xxd -r -p $T/k.hex > keys.cbor|od -An -v -tx1 keys.cbor > $T/k.hex && cose-show --keys $T/k.hex one.cbor
-2|/dev/null|usage: scripts/c-library.sh [left] STEP.., and STEP is c, rust, go, python, image, compare, memory or valgrind|../scripts/c-library.sh
-2|/dev/null|usage: scripts/c-library.sh [left] STEP.., and STEP is c, rust, go, python, image, compare, memory or valgrind|../scripts/c-library.sh left
+2|/dev/null|usage: scripts/c-library.sh [left] STEP.., and STEP is c, rust, go, python, es256, image, compare, memory or valgrind|../scripts/c-library.sh
+2|/dev/null|usage: scripts/c-library.sh [left] STEP.., and STEP is c, rust, go, python, es256, image, compare, memory or valgrind|../scripts/c-library.sh left
 70|/dev/null|c-library.sh: rt isn't in PATH: it comes with Rattle's kit, KIT/bin|env -u RT_KIT CRATES=$T PATH=/usr/bin:/bin ../scripts/c-library.sh c
 # what passes, with each option
 0|one.cbor|passed 1, refused 0|cose-gate --strict keys.cbor 01 < one.cbor

@@ -1,7 +1,7 @@
 #!/usr/bin/env python3
 """c-image.py IMAGE QUESTION CHECK LIBRARY: the program of examples/c/image.c over images that it makes: good, with a byte changed, cut at every
 place, of other tags and shapes, and with bytes after the message; that of examples/c/question.c, which has to write the record of each
-question; and `stream_check` and `stream_ask` of examples/python/cose_gate.py over LIBRARY, a shared object, which is named without its folder.
+question; and `stream_check` and `stream_ask` of examples/python/cose_gate over LIBRARY, a shared object, which is named without its folder.
 Then an image of 64 MiB, under the least limit of data (`ulimit -d`, which the copy doesn't count towards) in which a small image is checked
 and asked about; CHECK, the program of examples/c/check.c, which reads its input into memory, has to fail under that. While QUESTION writes
 that image, its file is overwritten and shortened: what was asked about has to be what is written. Status 1 if something differs. It needs
@@ -78,7 +78,7 @@ def expect(status, said, content, of=KEYS, payload=None):
     }
     found = by_python(content, of)
     if found != told[status]:
-        sys.exit(f"c-image.py: cose_gate.py: {found!r}, and not {told[status]!r}: {content[:64].hex()}")
+        sys.exit(f"c-image.py: cose_gate: {found!r}, and not {told[status]!r}: {content[:64].hex()}")
     count += 1
 
 
@@ -163,13 +163,13 @@ expect(3, "no key set", small, of=b"")
 write(name, small)
 for lent in (bytearray(small), memoryview(small), memoryview(bytearray(small)), array.array("B", small)):
     if (by_python(lent, KEYS), gate.stream_ask(b"", lent)[1], gate.check(KEYS, b"", lent).passed) != (b"hello", b"hello", small):
-        sys.exit(f"c-image.py: cose_gate.py doesn't take a {type(lent).__name__}")
+        sys.exit(f"c-image.py: cose_gate doesn't take a {type(lent).__name__}")
 with open(name, "rb") as file:
     for access in (mmap.ACCESS_READ, mmap.ACCESS_COPY):
         with mmap.mmap(file.fileno(), 0, access=access) as mapped:
             payloads = by_python(mapped, KEYS), gate.stream_ask(b"", mapped)[1]
         if payloads != (b"hello", b"hello"):
-            sys.exit("c-image.py: cose_gate.py doesn't take a mapped file")
+            sys.exit("c-image.py: cose_gate doesn't take a mapped file")
 
 large = 64 << 20
 write(keys, KEYS)

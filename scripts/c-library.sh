@@ -1,9 +1,10 @@
 #!/usr/bin/env bash
 # c-library.sh [left] STEP..: proves and builds the static library cose_gate_c if a source of it has changed, and then builds and runs what
 # each step asks, with the tools that are there; it says which are not. Without a step it says how it is used (status 2).
-#   c, rust, go, python   the example of that language on examples/mixed.cbor: status 1, four messages passed; of Python also es256.py
+#   c, rust, go, python   the example of that language on examples/mixed.cbor: status 1, four messages passed; the tests of the packages in Rust,
+#                         Go and Python
 #   es256                 examples/c/es256.c, with OpenSSL's libcrypto: signed messages of examples/signatures/make.py, two keys of one key id
-#   image                 examples/c/image.c, question.c and the streaming calls of cose_gate.py over good, changed and cut images, one of 64 MiB
+#   image                 examples/c/image.c, question.c and the streaming calls of the Python package over good, changed and cut images, one of 64 MiB
 #   compare               what the examples in these languages, or all, give against what the program gives, over examples/*.cbor; the library's
 #                         shared object against the program over the rows `run` of conformance_gate, and over 1,000 mutated sequences
 #   memory                the C test under ASan, and with each malloc refused in turn, over the worked examples and 1,000 mutated ones; archive
@@ -12,7 +13,7 @@
 # It is built over the libraries that `rt ci` or `rt check` left in out/, in 40 CPU seconds; if one of them is missing or older than its
 # sources, `rt lib` proves them all. With `left` that fails, and the program is the one that `rt ci` left; CRATES is then another folder of
 # crates with such out/. Status 1 if something differs, 70 if the library can't be built. What it makes lies in crates/cose_gate_c/out; beside
-# that `go` makes examples/go/lib, `rust` examples/rust/Cargo.lock, and `compare` builds the program in its own out/.
+# that `rust` makes examples/rust/Cargo.lock, and `compare` builds the program in its own out/.
 set -eu
 export PYTHONDONTWRITEBYTECODE=1
 top=$(cd "$(dirname "$(readlink -f "${BASH_SOURCE[0]}")")/.." && pwd)
@@ -105,9 +106,11 @@ build_rust() {
   cp "$made/rust/release/check" "$made/check_rust"
 }
 build_go() {
-  mkdir -p "$top/examples/go/lib"
-  cp "$archive" "$libc" "$top/examples/go/lib/"
-  (cd "$top/examples/go" && go build -o "$made/check_go" .)
+  printf 'Name: cose_gate\nDescription: this archive\nVersion: 0\nCflags: -I%s\nLibs: %s %s\n' "$top/include" "$archive" "$libc" > "$made/cose_gate.pc"
+  (
+    export PKG_CONFIG_PATH=$made GOFLAGS=-mod=mod GOCACHE=$made/go GOPROXY=off CGO_LDFLAGS_ALLOW='.*\.a'
+    cd "$top/examples/go" && go vet ./... && go test -count=1 ./... > /dev/null && go build -o "$made/check_go" ./check
+  ) || fails "examples/go"
 }
 declare -A tools=([c]=gcc [rust]=cargo [go]=go [python]=python3)
 
@@ -133,7 +136,7 @@ ask() {
 }
 run_example() {
   case $1 in
-    python) ask python python3 "$top/examples/python/cose_gate.py" "$made/libcose_gate.so" "$keys" 01 ;;
+    python) PYTHONPATH=$top/examples/python ask python python3 -m cose_gate "$made/libcose_gate.so" "$keys" 01 ;;
     *) ask "$1" "$made/check_$1" "$keys" 01 ;;
   esac
 }
@@ -157,11 +160,12 @@ if wants python && has gcc; then
   fi
 fi
 
-# What es256 passes of a file under a key set, to $made/es256.out, if status and lines are those that are due.
+# What es256 passes of a file under a key set, to $made/es256.out, if status and lines are those that are due; more arguments come first.
 es256() {
   local status=0
-  "$made/es256_c" "$1" "$2" > "$made/es256.out" 2> "$made/es256.err" || status=$?
-  [ "$status $(sed 's/ at [0-9]*//' "$made/es256.err" | paste -sd '|')" = "$3" ] || fails "es256 on ${2##*/}: $status, $(cat "$made/es256.err")"
+  "$made/es256_c" "${@:4}" "$1" "$2" > "$made/es256.out" 2> "$made/es256.err" || status=$?
+  [ "$status $(sed 's/ at [0-9]*//' "$made/es256.err" | paste -sd '|')" = "$3" ] ||
+    fails "es256 ${*:4} on ${2##*/}: $status, $(cat "$made/es256.err")"
 }
 if wants es256; then
   if has gcc && has python3 && printf '#include <openssl/param_build.h>\n' | gcc -E - > /dev/null 2>&1 && /usr/bin/python3 -c 'import cryptography' 2> /dev/null; then
@@ -181,6 +185,12 @@ if wants es256; then
     printf hello | "$top/tools/cose-make" --key "$signed/second.cbor" --payload - > "$signed/hello.cbor"
     es256 "$signed/both.cbor" "$signed/hello.cbor" "0 item 1: passed|passed 1, refused 0"
     es256 "$signed/signed.cbor" "$signed/hello.cbor" "3 no key set, records or digests"
+    "$top/tools/cose-make" --key "$signed/second.cbor" --cwt '{"exp": 2000, "aud": "door"}' > "$signed/token.cbor"
+    es256 "$signed/both.cbor" "$signed/token.cbor" "0 item 1: passed|passed 1, refused 0" --cwt 1999 door
+    for it in "2000 door" "1999 gate" 1999; do
+      es256 "$signed/both.cbor" "$signed/token.cbor" "1 item 1: $no|passed 0, refused 1" --cwt $it
+    done
+    es256 "$signed/both.cbor" "$signed/hello.cbor" "1 item 1: $no|passed 0, refused 1" --cwt 1999
     echo "c-library.sh: es256 passes what is well signed, and nothing else"
   else
     lacks "gcc, libcrypto's headers, python3 or python3-cryptography" "the example es256"

@@ -3,8 +3,9 @@
 # cose-verify, cose-key and cose-make, in Python, into PREFIX/lib/cose-gate, with links in PREFIX/bin; their manual pages into
 # PREFIX/share/man/man1, and completion for bash into PREFIX/share/bash-completion. With --library also the library for C:
 # PREFIX/lib/libcose_gate.a, PREFIX/include/cose_gate.h and PREFIX/lib/pkgconfig/cose_gate.pc, for `cc check.c $(pkg-config --cflags --libs
-# cose_gate)`. Programs and library are proved and built first, unless they were built of the sources as they are (scripts/proved.sh, `rt lib`);
-# if that fails nothing is installed, and the status is 70. All can read what is installed, whatever the umask.
+# cose_gate)`; and with gcc PREFIX/lib/cose-gate/libcose_gate.so, for examples/python. Programs and library are proved and built first, unless
+# they were built of the sources as they are (scripts/proved.sh, `rt lib`); if that fails nothing is installed, and the status is 70. All can
+# read what is installed, whatever the umask.
 set -u
 umask 022
 top=$(cd "$(dirname "$(readlink -f "${BASH_SOURCE[0]}")")/.." && pwd)
@@ -91,6 +92,11 @@ if [ -n "$library" ]; then
   put 644 "$made/libcose_gate.a" "$prefix/lib/libcose_gate.a"
   put 644 "$top/include/cose_gate.h" "$prefix/include/cose_gate.h"
   put 644 "$made/cose_gate.pc" "$prefix/lib/pkgconfig/cose_gate.pc"
+  # For examples/python. In a folder of its own, so that the linker doesn't take it in place of the archive.
+  if command -v gcc > /dev/null; then
+    gcc -shared -o "$made/libcose_gate.so" -Wl,--whole-archive "$archive" -Wl,--no-whole-archive "$kit/c/liblibc_c.a" || exit 1
+    put 755 "$made/libcose_gate.so" "$prefix/lib/cose-gate/libcose_gate.so"
+  fi
 fi
 case ":$PATH:" in
   *":$(cd "$prefix/bin" && pwd):"*) ;;

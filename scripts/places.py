@@ -40,8 +40,8 @@ def statuses():
     header = "include/cose_gate.h"
     listed = re.search(r"^/\* The statuses: .*?^enum cose_gate_status \{(.*?)^\};", text(header), re.M | re.S)[1]
     same("the statuses are", ["0", "1", "2", "3", "4", "5"], header, re.findall(r"^  COSE_GATE_\w+ = (\d)", listed, re.M))
-    same("the errors have the statuses", ["1", "2", "3", "4", "5"], "examples/python/cose_gate.py",
-         found("examples/python/cose_gate.py", r"^    status = (\d)$"))
+    same("the errors have the statuses", ["1", "2", "3", "4", "5"], "examples/python/cose_gate/gate.py",
+         found("examples/python/cose_gate/gate.py", r"^    status = (\d)$"))
     same("the statuses are", ["0 | 1", "2", "3", "_"], "examples/rust/src/lib.rs",
          re.findall(r"^            (\S.*?) => \w+\(", re.search(r"match answer\.status \{.*?\n        \}", text("examples/rust/src/lib.rs"), re.S)[0], re.M))
     for name in ["gate", "ask", "pass"]:
@@ -62,7 +62,7 @@ def limits():
     for file, of_nesting, of_layers in [
         ("include/cose_gate.h", r"define COSE_GATE_NESTING (\d+)", r"define COSE_GATE_LAYERS (\d+)"),
         ("examples/rust/src/lib.rs", r"^const NESTING: usize = (\d+);", r"^const LAYERS: usize = (\d+);"),
-        ("examples/python/cose_gate.py", r"^NESTING, LAYERS = (\d+),", r"^NESTING, LAYERS = \d+, (\d+)"),
+        ("examples/python/cose_gate/gate.py", r"^NESTING, LAYERS = (\d+),", r"^NESTING, LAYERS = \d+, (\d+)"),
     ]:
         same("the limits are", nesting + layers, file, found(file, of_nesting) + found(file, of_layers))
     bounds = found("crates/coset_labels/src/limits.rt", r"nesting < (\d+) \|\| nesting > (\d+) \|\| layers < (\d+) \|\| layers > (\d+)")
@@ -85,11 +85,17 @@ def abi():
 
     fields_of("StreamAnswer", "crates/cose_gate_c/src/streaming.rt", "cose_gate_stream_answer")
     fields_of("StreamQuestion", "crates/cose_gate_c/src/stream_asking.rt", "cose_gate_stream_question")
+    lent = {"&'a [u8]": "cose_gate_text {}", "&'a [i64]": "const int64_t *{0}; size_t {0}_length",
+            "&'a [Text<'a>]": "const cose_gate_text *{0}; size_t {0}_length", "i64": "int64_t {}", "bool": "bool {}"}
+    choice = re.search(r"pub struct TokenChoice<'a> \{(.*?)\n\}", text("crates/cose_gate_c/src/tokens.rt"), re.S)[1]
+    said = re.search(r"typedef struct cose_gate_token_terms \{(.*?)\n\}", text(header), re.S)[1]
+    same("the fields of cose_gate_token_terms are", [lent[of].format(name) for name, of in re.findall(r"^    pub (\w+): (.*),$", choice, re.M)],
+         header, re.findall(r"^  (.*?);$", re.sub(r"\s*/\*.*?\*/", "", said).replace(";\n  size_t", "; size_t"), re.M))
     names = fields_of("Answer", "crates/cose_gate_records/src/answer.rt", "cose_gate_answer")
     rust = "examples/rust/src/lib.rs"
     fields = re.search(r"^struct Answer \{(.*?)\n\}", text(rust), re.M | re.S)[1]
     same("the fields of an answer are", names, rust, re.findall(r"^    (\w+): ", fields, re.M))
-    python = "examples/python/cose_gate.py"
+    python = "examples/python/cose_gate/gate.py"
     same("the fields of an answer are", names, python, re.findall(r'\("(\w+)",', found(python, r"_fields_ = (.*?)$")[0]))
     for exported, declared in [("Answer", "cose_gate_answer"), ("StreamAnswer", "cose_gate_stream_answer"),
                                ("StreamQuestion", "cose_gate_stream_question")]:

@@ -1,3 +1,3 @@
-module check
+module cosegate
 
 go 1.18
