@@ -18,7 +18,7 @@ const OPTIONS: &str = "  cose-gate --help has all options\n";
 /// writer, and returns the status. A fault of the writer is ignored.
 pub fn end_wrong<E: Write>(why: WrongArguments<'_>, err: &mut E) -> u8
     ensures status { result ≡ 2 }
-    ensures said { Wrote E.Write err.old err.new (spec.wrong_lines why) }
+    ensures said { Wrote E.Write err.old err.new (spec.wrong_lines why.entry) }
 {
     write(USAGE, err);
     write_wrong(why, err);
@@ -28,7 +28,7 @@ pub fn end_wrong<E: Write>(why: WrongArguments<'_>, err: &mut E) -> u8
 
 /// Writes what is wrong with arguments.
 fn write_wrong<E: Write>(why: WrongArguments<'_>, err: &mut E)
-    ensures { Wrote E.Write err.old err.new (spec.wrong_line why) }
+    ensures { Wrote E.Write err.old err.new (spec.wrong_line why.entry) }
 {
     match why {
         WrongArguments::NoOption(word) => {
