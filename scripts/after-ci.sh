@@ -38,8 +38,8 @@ rows() {
 2|/dev/null|usage: cose-gate [--strict] [--verbose] [--quiet] KEYS [AADHEX] < INPUT > PASSED|cose-gate keys.cbor $'\xff' < one.cbor
 2|/dev/null|usage: cose-gate [--strict] [--verbose] [--quiet] KEYS [AADHEX] < INPUT > PASSED|../cose-gate --strikt keys.cbor
 2|/dev/null|usage: cose-gate [--strict] [--verbose] [--quiet] KEYS [AADHEX] < INPUT > PASSED|cose-gate keys.cbor --strikt < one.cbor
-2|/dev/null|usage: cose-gate --stream [--payload FILE] [--verbose] KEYS [AADHEX] < MESSAGE|cose-gate --stream --strict keys.cbor < one.cbor
-2|/dev/null|usage: cose-gate --stream [--payload FILE] [--verbose] KEYS [AADHEX] < MESSAGE|../cose-gate --stream --payload keys.cbor < one.cbor
+2|/dev/null||cose-gate keys.cbor --strict --stream < one.cbor 2> $T/said; s=$?; cmp $T/said <(printf 'usage: cose-gate KEYS [AADHEX]\n  --strict: no such option with --stream\n  cose-gate --help has all options\n') && exit $s || exit 9
+2|/dev/null||../cose-gate --payload keys.cbor < one.cbor 2> $T/said; s=$?; cmp $T/said <(printf 'usage: cose-gate KEYS [AADHEX]\n  --payload is for --stream\n  cose-gate --help has all options\n') && exit $s || exit 9
 2|/dev/null|       cose-ask --keys KEYS [--strict] [AADHEX] [--cwt TERMS]|cose-ask --strikt < one.cbor
 2|/dev/null|       cose-ask --keys KEYS [--strict] [AADHEX] [--cwt TERMS]|cose-ask 01 02 < one.cbor
 2|/dev/null|       cose-ask --keys KEYS [--strict] [AADHEX] [--cwt TERMS]|cose-ask $'\xff' < one.cbor
@@ -119,6 +119,8 @@ rows() {
 # one large message
 0|/dev/null|passed|cose-gate --stream keys.cbor 01 < one.cbor
 0|/dev/null|passed|cose-gate --stream --payload $T/payload keys.cbor 01 < one.cbor && printf hi | cmp - $T/payload && [ ! -e $T/payload.part ]
+0|/dev/null|passed|cose-gate keys.cbor --payload $T/any 01 --stream < one.cbor && printf hi | cmp - $T/any
+0|/dev/null|passed|cp keys.cbor $T/--keys; cd $T && cose-gate --stream --payload -- -- --keys 01 < $OLDPWD/one.cbor && printf hi | cmp - ./-- && rm ./--
 3|/dev/null|  no such file|cose-gate --stream nosuch 01 < one.cbor
 1|/dev/null|refused: Judged|{ printf '\321\204\103\241\1\5\240\132\4\0\0\0'; head -c 67108864 /dev/zero; printf '\130\40'; head -c 32 /dev/zero; } | (ulimit -v 20000; cose-gate --stream --payload $T/large keys.cbor); s=$?; [ ! -e $T/large ] && [ ! -e $T/large.part ] && exit $s || exit 9
 4|/dev/null|stopped: write|{ printf '\321\204\103\241\1\5\240\132\4\0\0\0'; head -c 67108864 /dev/zero; printf '\130\40'; head -c 32 /dev/zero; } | (trap '' XFSZ; ulimit -f 100; cose-gate --stream --payload $T/large keys.cbor); s=$?; [ ! -e $T/large ] && [ ! -e $T/large.part ] && exit $s
@@ -133,20 +135,21 @@ rows() {
 0|/dev/null|passed|: > $T/mode; chmod 640 $T/mode; umask 077; cose-gate --stream --payload $T/mode keys.cbor 01 < one.cbor && [ $(stat -c %a $T/mode) = 640 ]
 0|||{ head -c 40 one.cbor; sleep 2; } | cose-gate --stream --payload $T/half keys.cbor 01 2> /dev/null & sleep 1; [ -e $T/half.part ] && [ ! -e $T/half ]; s=$?; wait; exit $s
 # two runs with one FILE; what another run, a link or a FIFO has as FILE.part stays
-0|/dev/null|passed|{ head -c 40 one.cbor; timeout 20 bash -c 'until [ -e $T/two.part ]; do sleep .1; done'; LC_ALL=C sed s/Bhi/Bho/ one.cbor | cose-gate --stream --payload $T/two keys.cbor 01 2> $T/said; tail -c +41 one.cbor; } | cose-gate --stream --payload $T/two keys.cbor 01 && printf hi | cmp - $T/two && [ ! -e $T/two.part ] && [ ! -e $T/two.part1 ] && cmp $T/said <(printf 'refused: Judged\n  FILE.part is there: another run is at it, or was killed\n')
-0|/dev/null|  FILE.part is there: another run is at it, or was killed|printf x > $T/kept; ln -s kept $T/new.part; cose-gate --stream --payload $T/new keys.cbor 01 < one.cbor && printf x | cmp - $T/kept && printf hi | cmp - $T/new && [ -L $T/new.part ] && [ ! -e $T/new.part1 ]
-0|/dev/null|  FILE.part is there: another run is at it, or was killed|printf x > $T/hard; ln $T/hard $T/twin.part; cose-gate --stream --payload $T/twin keys.cbor 01 < one.cbor && printf x | cmp - $T/hard && printf hi | cmp - $T/twin
-0|/dev/null|  FILE.part is there: another run is at it, or was killed|mkfifo $T/fifo.part $T/fifo.part1; timeout 20 cose-gate --stream --payload $T/fifo keys.cbor 01 < one.cbor && [ -p $T/fifo.part ] && [ -p $T/fifo.part1 ] && printf hi | cmp - $T/fifo
-4|/dev/null|  FILE.part and FILE.part1 to FILE.part99 are there|for n in '' {1..99}; do : > $T/all.part$n; done; (cose-gate --stream --payload $T/all keys.cbor 01; s=$?; cmp - one.cbor && exit $s) < one.cbor; s=$?; [ ! -e $T/all ] && rm $T/all.part* && exit $s
-0|/dev/null|  FILE.part is there: another run is at it, or was killed|for n in '' {1..98}; do : > $T/last.part$n; done; cose-gate --stream --payload $T/last keys.cbor 01 < one.cbor && printf hi | cmp - $T/last && [ ! -e $T/last.part99 ]
+0|/dev/null|passed|{ head -c 40 one.cbor; timeout 20 bash -c 'until [ -e $T/two.part ]; do sleep .1; done'; LC_ALL=C sed s/Bhi/Bho/ one.cbor | cose-gate --stream --payload $T/two keys.cbor 01 2> $T/said; tail -c +41 one.cbor; } | cose-gate --stream --payload $T/two keys.cbor 01 && printf hi | cmp - $T/two && [ ! -e $T/two.part ] && [ ! -e $T/two.part1 ] && cmp $T/said <(printf "refused: Judged\n  $T/two.part is there: another run is at it, or was killed\n")
+0|/dev/null|  $T/new.part is there: another run is at it, or was killed|printf x > $T/kept; ln -s kept $T/new.part; cose-gate --stream --payload $T/new keys.cbor 01 < one.cbor && printf x | cmp - $T/kept && printf hi | cmp - $T/new && [ -L $T/new.part ] && [ ! -e $T/new.part1 ]
+0|/dev/null|  $T/twin.part is there: another run is at it, or was killed|printf x > $T/hard; ln $T/hard $T/twin.part; cose-gate --stream --payload $T/twin keys.cbor 01 < one.cbor && printf x | cmp - $T/hard && printf hi | cmp - $T/twin
+0|/dev/null|  $T/fifo.part is there: another run is at it, or was killed|mkfifo $T/fifo.part $T/fifo.part1; timeout 20 cose-gate --stream --payload $T/fifo keys.cbor 01 < one.cbor && [ -p $T/fifo.part ] && [ -p $T/fifo.part1 ] && printf hi | cmp - $T/fifo
+4|/dev/null|  $T/all.part: it is there, and so are .part1 to .part99|for n in '' {1..99}; do : > $T/all.part$n; done; (cose-gate --stream --payload $T/all keys.cbor 01; s=$?; cmp - one.cbor && exit $s) < one.cbor; s=$?; [ ! -e $T/all ] && rm $T/all.part* && exit $s
+0|/dev/null|  $T/last.part is there: another run is at it, or was killed|for n in '' {1..98}; do : > $T/last.part$n; done; cose-gate --stream --payload $T/last keys.cbor 01 < one.cbor && printf hi | cmp - $T/last && [ ! -e $T/last.part99 ]
+4|/dev/null|  FILE.part: no such folder|cose-gate --stream --payload $'no/\e[2J' keys.cbor 01 < one.cbor
 # FILE that is no regular file: nothing is read, and it stays
-4|/dev/null|  FILE is there, and no regular file|ln -s kept $T/link; (cose-gate --stream --payload $T/link keys.cbor 01; s=$?; cmp - one.cbor && exit $s) < one.cbor; s=$?; printf x | cmp - $T/kept && [ -L $T/link ] && exit $s
-4|/dev/null|  FILE is there, and no regular file|mknod $T/null c 1 3 2> /dev/null || mkfifo $T/null; timeout 20 cose-gate --stream --payload $T/null keys.cbor 01 < one.cbor; s=$?; [ ! -f $T/null ] && [ ! -e $T/null.part ] && exit $s
-4|/dev/null|  FILE is there, and no regular file|cose-gate --stream --payload $T keys.cbor 01 < one.cbor; s=$?; [ ! -e $T.part ] && exit $s
-4|/dev/null|  FILE is -; a payload goes into a file, once its MAC is checked|cd $T && cose-gate --stream --payload - $OLDPWD/keys.cbor 01 < $OLDPWD/one.cbor; s=$?; [ ! -e - ] && [ ! -e -.part ] && exit $s
-4|/dev/null|  it can't be told whether FILE is there|cose-gate --stream --payload '' keys.cbor 01 < one.cbor
-4|/dev/null|  the folder of FILE isn't there|cose-gate --stream --payload $T/no/payload keys.cbor 01 < one.cbor
-4|/dev/null|  no permission to make FILE.part|mkdir $T/closed && chmod 555 $T/closed; $nobody cose-gate --stream --payload $T/closed/payload keys.cbor 01 < one.cbor
+4|/dev/null|  $T/link: it is there, and no regular file|ln -s kept $T/link; (cose-gate --stream --payload $T/link keys.cbor 01; s=$?; cmp - one.cbor && exit $s) < one.cbor; s=$?; printf x | cmp - $T/kept && [ -L $T/link ] && exit $s
+4|/dev/null|  $T/null: it is there, and no regular file|mknod $T/null c 1 3 2> /dev/null || mkfifo $T/null; timeout 20 cose-gate --stream --payload $T/null keys.cbor 01 < one.cbor; s=$?; [ ! -f $T/null ] && [ ! -e $T/null.part ] && exit $s
+4|/dev/null|  $T: it is there, and no regular file|cose-gate --stream --payload $T keys.cbor 01 < one.cbor; s=$?; [ ! -e $T.part ] && exit $s
+4|/dev/null|  -: a payload goes into a file, once its MAC is checked|cd $T && cose-gate --stream --payload - $OLDPWD/keys.cbor 01 < $OLDPWD/one.cbor; s=$?; [ ! -e - ] && [ ! -e -.part ] && exit $s
+4|/dev/null|  FILE: it can't be told whether it is there|cose-gate --stream --payload '' keys.cbor 01 < one.cbor
+4|/dev/null|  $T/no/payload.part: no such folder|cose-gate --stream --payload $T/no/payload keys.cbor 01 < one.cbor
+4|/dev/null|  $T/closed/payload.part: no permission|mkdir $T/closed && chmod 555 $T/closed; $nobody cose-gate --stream --payload $T/closed/payload keys.cbor 01 < one.cbor
 # what stops a run
 4|one.cbor|stopped: decode: Io(EndOfFile)|cose-gate keys.cbor 01 < cut.cbor
 4|one.cbor|  nothing after it is judged; cose-show --cut 1 DIR writes each item to its own file|cose-gate --verbose keys.cbor 01 < cut.cbor

@@ -5,7 +5,7 @@ use ciborium_ll::Io;
 use cose_gate::{Mem, Write};
 use cose_gate_command::{KeyFile, NotRun, Note, ask, ended, pass};
 use cose_stream::{
-    EndTeller, StreamEnd, StreamTerms, end_status, stream, stream_arguments, tell_end,
+    EndTeller, StreamEnd, StreamTerms, end_status, end_wrong, stream, stream_arguments, tell_end,
 };
 use std::alloc::Global;
 use std::cell::RefCell;
@@ -149,7 +149,7 @@ pub fn pass_command(to: &mut Out, row: &mut &str) {
     add_end(to, end, shown(&out), shown(&err));
 }
 
-/// The program `cose-gate` by the arguments of a command line after `--stream`: its status, the
+/// The program `cose-gate` by the arguments of a command line with `--stream`: its status, the
 /// payload that was flushed, and its lines.
 pub fn stream_command(to: &mut Out, row: &mut &str) {
     stream_flushed(to, usize::MAX, row);
@@ -163,9 +163,8 @@ pub fn stream_held(to: &mut Out, row: &mut &str) {
 
 fn stream_flushed(to: &mut Out, flushes: usize, row: &mut &str) {
     let mut out = Sink::flushed(to.alloc(), flushes);
-    if let Some((status, err)) = streamed(to, row, &mut out) {
-        add_ended(to, status, shown(&out), shown(&err));
-    }
+    let (status, err) = streamed(to, row, &mut out);
+    add_ended(to, status, shown(&out), shown(&err));
 }
 
 /// The same, if the payload has space for so many bytes, 64 at most.
@@ -173,19 +172,19 @@ pub fn stream_in_room(to: &mut Out, row: &mut &str) {
     let room = words::number(to, row);
     let mut memory = [0; 64];
     let mut out = Mem::new(&mut memory[..room.min(64)]);
-    if let Some((status, err)) = streamed(to, row, &mut out) {
-        add_ended(to, status, out.as_written(), shown(&err));
-    }
+    let (status, err) = streamed(to, row, &mut out);
+    add_ended(to, status, out.as_written(), shown(&err));
 }
 
 /// The check of a message: the status, and the lines.
-fn streamed<W: Write>(to: &mut Out, row: &mut &str, out: &mut W) -> Option<(u8, Sink)> {
+fn streamed<W: Write>(to: &mut Out, row: &mut &str, out: &mut W) -> (u8, Sink) {
     let keys = words::optional(to, row);
     let input = words::bytes(to, row);
     let all = words::owned(to, row);
-    let Some(asked) = stream_arguments(&all) else {
-        to.text("usage");
-        return None;
+    let mut err = shown_writer(to);
+    let asked = match stream_arguments(&all) {
+        Ok(asked) => asked,
+        Err(why) => return (end_wrong(why, &mut err), err),
     };
     let alloc = to.alloc();
     let note = RefCell::new(Note::new(alloc, asked.verbose));
@@ -193,6 +192,7 @@ fn streamed<W: Write>(to: &mut Out, row: &mut &str, out: &mut W) -> Option<(u8, 
         verbose: asked.verbose,
         file: key_file(asked.keys, keys.as_deref()),
         aad: asked.aad,
+        payload: asked.payload,
         note: &note,
     };
     let terms = StreamTerms {
@@ -201,13 +201,12 @@ fn streamed<W: Write>(to: &mut Out, row: &mut &str, out: &mut W) -> Option<(u8, 
         note: if asked.verbose { Some(&note) } else { None },
     };
     let mut reader = input.as_slice();
-    let mut err = shown_writer(to);
     let ended = StreamEnd {
         end: stream(alloc, terms, &mut reader, out),
         others: 0,
     };
     tell_end(alloc, &ended, teller, &mut err);
-    Some((end_status(&ended.end), err))
+    (end_status(&ended.end), err)
 }
 
 fn key_file<'a>(name: &'a str, bytes: Option<&'a [u8]>) -> KeyFile<'a> {

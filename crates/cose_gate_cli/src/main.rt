@@ -10,7 +10,7 @@
 mod folder;
 mod streaming;
 
-use crate::streaming::start_stream;
+use crate::streaming::{is_for_stream, start_stream};
 use ciborium_ll::Io;
 use cose_gate_command::{
     Content, NotRun, USAGE, ended, page_for, program, read_arguments, read_in_blocks, words_of,
@@ -34,9 +34,9 @@ With --strict a message that isn't in canonical encoding already is refused: Not
 On standard error: a line for each item, and at the end how many passed and were refused.
 With --verbose indented lines after these say why an item is refused, or the run stops.
 With --quiet an item that passed has no line.
-With --stream, which comes first, the input is one such message, of any size: it is checked as
-it comes, and nothing is written to standard output. FILE, which is a regular file or not there
-yet, gets its payload once its MAC is found to be good.
+With --stream the input is one such message, of any size: it is checked as it comes, and
+nothing is written to standard output. FILE, which is a regular file or not there yet, gets its
+payload once its MAC is found to be good.
 Status 0: no item was refused. 1: some were. 2: wrong arguments, or AADHEX is not hex.
 3: KEYS can't be read, or isn't a key set. 4: the input isn't CBOR, input or output failed, or
 it is out of memory.
@@ -52,10 +52,11 @@ fn start(rt: &HostRuntime) -> Result<u8, NotRun> {
     if let Some(page) = page_for(words.as_slice(), HELP, VERSION) {
         return write_page(page, &mut Io::new(rt.stdout()));
     }
-    match words.as_slice() {
-        [first, rest @ ..] if first.as_str() == "--stream" => start_stream(rt, rest),
-        words => run(rt, words, read_keys(rt, words)?),
+    let words = words.as_slice();
+    if is_for_stream(words) {
+        return start_stream(rt, words);
     }
+    run(rt, words, read_keys(rt, words)?)
 }
 
 /// What the file KEYS holds, if the arguments name one.

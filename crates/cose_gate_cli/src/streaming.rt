@@ -2,19 +2,31 @@
 use crate::folder::HostFolder;
 use ciborium_ll::{Io, Read};
 use cose_gate::Nowhere;
-use cose_gate_command::{Content, KeyFile, NotRun, Note, ended, read_in_blocks, write_in_blocks};
+use cose_gate_command::{Content, KeyFile, NotRun, Note, read_in_blocks, write_in_blocks};
 use cose_stream::{
-    EndTeller, STREAM_USAGE, StreamArguments, StreamEnd, StreamTerms, end_status, stream,
+    EndTeller, StreamArguments, StreamEnd, StreamTerms, end_status, end_wrong, stream,
     stream_arguments, stream_into, tell_end,
 };
 use std::cell::RefCell;
 use std::fs;
 
+/// Whether `--stream` or `--payload` is among the words before `--`.
+pub fn is_for_stream(words: &[String]) -> bool {
+    for word in words {
+        match word.as_str() {
+            "--stream" | "--payload" => return true,
+            "--" => return false,
+            _ => {}
+        }
+    }
+    false
+}
+
 /// Checks the message on standard input, and returns the status.
 pub fn start_stream(rt: &HostRuntime, words: &[String]) -> Result<u8, NotRun> {
     match stream_arguments(words) {
-        Some(asked) => check(rt, asked),
-        None => Ok(ended(Err(NotRun::Usage), STREAM_USAGE, &mut Io::new(rt.stderr()))),
+        Ok(asked) => check(rt, asked),
+        Err(why) => Ok(end_wrong(why, &mut Io::new(rt.stderr()))),
     }
 }
 
@@ -29,6 +41,7 @@ fn check(rt: &HostRuntime, asked: StreamArguments<'_>) -> Result<u8, NotRun> {
         verbose: asked.verbose,
         file: key_file(asked.keys, keys.bytes.as_deref(), keys.fault),
         aad: asked.aad,
+        payload: asked.payload,
         note: &note,
     };
     // Another reader than the gate's: with one type of fault the compiler would no longer put what

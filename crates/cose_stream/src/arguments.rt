@@ -1,13 +1,9 @@
 //! The arguments.
-ghost use Rattle.std.specs.Prelude.{◌≡◌, map, option_copied, option_map, string_bytes};
+ghost use Rattle.std.specs.Prelude.{◌≡◌, ℕ, List, [], ◌∷◌, Some, None, if◌then◌else◌, is_ok};
+ghost use Rattle.std.specs.Prelude.{map, string_bytes, MatchResult};
+ghost use Rattle.cose_gate_command.specs.Arguments as command;
 ghost use Rattle.cose_stream.specs.Arguments as spec;
-ghost use Rattle.cose_stream.specs.Arguments.{stream_view};
-
-use cose_gate_command::read_arguments;
-
-/// The line for other arguments.
-pub const STREAM_USAGE: &str =
-    "usage: cose-gate --stream [--payload FILE] [--verbose] KEYS [AADHEX] < MESSAGE\n";
+ghost use Rattle.cose_stream.specs.Arguments.{IsOther, stream_after, stream_view};
 
 /// What the arguments ask for.
 #[derive(Debug, Clone, Copy, PartialEq, Eq)]
@@ -22,32 +18,136 @@ pub struct StreamArguments<'a> {
     pub aad: Option<&'a str>,
 }
 
-/// The arguments after `--stream`: `[--payload FILE]`, and then KEYS, AADHEX if it is there, and
-/// `--verbose` anywhere; `None` if they are others.
-pub fn stream_arguments(words: &[String]) -> Option<StreamArguments<'_>>
-    ensures { option_map stream_view result ≡ spec.stream_arguments (map string_bytes words.now) }
-{
-    let (first, rest) = words.split_first()?;
-    if first.as_str() != "--payload" {
-        return with_payload(None, words);
-    }
-    let (file, rest) = rest.split_first()?;
-    with_payload(Some(file.as_str()), rest)
+/// What is wrong with arguments.
+#[derive(Debug, Clone, Copy, PartialEq, Eq)]
+pub enum WrongArguments<'a> {
+    /// An option that `--stream` doesn't have.
+    NoOption(&'a str),
+    /// `--stream` is missing.
+    NoStream,
+    /// FILE is missing after `--payload`.
+    NoFile,
+    /// A second FILE.
+    SecondFile(&'a str),
+    /// KEYS is missing.
+    NoKeys,
+    /// A word after AADHEX.
+    TooMany(&'a str),
 }
 
-/// With this file, the other arguments.
-fn with_payload<'a>(payload: Option<&'a str>, words: &'a [String]) -> Option<StreamArguments<'a>>
-    ensures { option_map stream_view result
-        ≡ spec.with_payload (option_copied payload.entry) (map string_bytes words.now) }
+/// What the arguments after the program's name ask for: `--stream`, and `--payload FILE` and
+/// `--verbose` if they are there, anywhere, KEYS, and AADHEX if it is there. After `--` no word is
+/// an option; the word after `--payload` is FILE, whatever it is.
+///
+/// # Errors
+/// What is wrong with the first word that doesn't fit, or what is missing.
+pub fn stream_arguments(all: &[String]) -> Result<StreamArguments<'_>, WrongArguments<'_>>
+    ensures { MatchResult result
+        (λ asked. spec.stream_arguments (map string_bytes all.now) ≡ Some (stream_view asked))
+        (λ why. spec.stream_arguments (map string_bytes all.now) ≡ None) }
 {
-    let asked = read_arguments(words)?;
-    if asked.strict || asked.quiet {
-        return None;
+    let mut given = Given {
+        next: Next::Any,
+        stream: false,
+        verbose: false,
+        payload: None,
+        files: None,
+    };
+    for word in all {
+        given.take(word.as_str())?;
     }
-    Some(StreamArguments {
-        payload,
-        verbose: asked.verbose,
-        keys: asked.keys,
-        aad: asked.aad,
-    })
+    given.end()
+}
+
+/// What the next word may be.
+#[derive(Clone, Copy, PartialEq, Eq)]
+enum Next {
+    /// Any word.
+    Any,
+    /// FILE, after `--payload`.
+    Payload,
+    /// No option, after `--`.
+    Other,
+}
+
+/// The words so far.
+#[derive(Drop)]
+struct Given<'a> {
+    next: Next,
+    stream: bool,
+    verbose: bool,
+    payload: Option<&'a str>,
+    /// KEYS, and AADHEX after it.
+    files: Option<(&'a str, Option<&'a str>)>,
+}
+
+impl<'a> Given<'a> {
+    /// Takes the next word, if it fits.
+    fn take(&mut self, word: &'a str) -> Result<(), WrongArguments<'a>>
+        ensures { (ws : List (List ℕ)) → stream_after self.old (word.now ∷ ws)
+            ≡ (if is_ok result then stream_after self.new ws else None) }
+    {
+        match self.next {
+            Next::Any => match word {
+                "--" => self.next = Next::Other,
+                "--payload" => self.next = Next::Payload,
+                "--stream" => self.stream = true,
+                "--verbose" => self.verbose = true,
+                word if is_option(word) => return Err(WrongArguments::NoOption(word)),
+                word => return self.take_other(word),
+            },
+            Next::Payload => match self.payload {
+                None => {
+                    self.payload = Some(word);
+                    self.next = Next::Any;
+                }
+                Some(_) => return Err(WrongArguments::SecondFile(word)),
+            },
+            Next::Other => return self.take_other(word),
+        }
+        Ok(())
+    }
+
+    /// Takes KEYS or AADHEX.
+    fn take_other(&mut self, word: &'a str) -> Result<(), WrongArguments<'a>>
+        requires { IsOther self.old.next word.now }
+        ensures { (ws : List (List ℕ)) → stream_after self.old (word.now ∷ ws)
+            ≡ (if is_ok result then stream_after self.new ws else None) }
+    {
+        match self.files {
+            None => self.files = Some((word, None)),
+            Some((keys, None)) => self.files = Some((keys, Some(word))),
+            Some((_, Some(_))) => return Err(WrongArguments::TooMany(word)),
+        }
+        Ok(())
+    }
+
+    /// What the arguments ask for, if these are all words.
+    fn end(&self) -> Result<StreamArguments<'a>, WrongArguments<'a>>
+        ensures { MatchResult result (λ asked. stream_after self.now [] ≡ Some (stream_view asked))
+            (λ why. stream_after self.now [] ≡ None) }
+    {
+        if self.next == Next::Payload {
+            return Err(WrongArguments::NoFile);
+        }
+        if !self.stream {
+            return Err(WrongArguments::NoStream);
+        }
+        match self.files {
+            Some((keys, aad)) => Ok(StreamArguments {
+                payload: self.payload,
+                verbose: self.verbose,
+                keys,
+                aad,
+            }),
+            None => Err(WrongArguments::NoKeys),
+        }
+    }
+}
+
+/// Whether a word is an option: it begins with a hyphen.
+fn is_option(word: &str) -> bool
+    ensures { result ≡ command.is_option word.now }
+{
+    matches!(word.as_bytes(), [b'-', ..])
 }

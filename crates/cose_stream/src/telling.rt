@@ -9,12 +9,14 @@ ghost use Rattle.cose_stream.specs.Lines.{SaysEnd};
 use crate::putting::StreamEnd;
 use crate::stop::{StreamRefusal, StreamStop};
 use crate::under::NoFile;
+use crate::usage::visible_or;
 use ciborium_ll::Write;
 use cose_gate::{GateFault, InputFault, Notice, write_notice};
 use cose_gate_command::{
     KeyFile, Note, say_fault, say_keys, say_not_begun, say_reason, write_indented, write_more,
     write_reason,
 };
+use cose_gate_program::hand_on;
 use std::alloc::Global;
 use std::cell::RefCell;
 
@@ -27,6 +29,8 @@ pub struct EndTeller<'a> {
     pub file: KeyFile<'a>,
     /// The external data in hex.
     pub aad: Option<&'a str>,
+    /// The name of the file for the payload.
+    pub payload: Option<&'a str>,
     /// The reason of a no.
     pub note: &'a RefCell<Note>,
 }
@@ -37,16 +41,17 @@ pub struct EndTeller<'a> {
 /// fault of the writer is ignored.
 pub fn tell_end<E: Write>(alloc: Global, ended: &StreamEnd, teller: EndTeller<'_>, err: &mut E)
     ensures { SaysEnd E.Write teller.entry.verbose teller.entry.file.fault.now
-        (option_copied teller.entry.file.bytes) ended.now.end ended.now.others err.old err.new }
+        (option_copied teller.entry.file.bytes) (option_copied teller.entry.payload)
+        ended.now.end ended.now.others err.old err.new }
 {
     write_end(&ended.end, err);
     if teller.verbose {
         say_why(alloc, &ended.end, teller, err);
-        say_others(ended.others, err);
+        say_others(ended.others, teller.payload, err);
         say_keys(teller.note, err);
     } else {
-        write_why(&ended.end, teller.file, err);
-        write_others(ended.others, err);
+        write_why(&ended.end, teller.file, teller.payload, err);
+        write_others(ended.others, teller.payload, err);
     }
 }
 
@@ -75,34 +80,49 @@ fn write_stopped<E: Write>(fault: &GateFault<InputFault>, err: &mut E)
 }
 
 /// Writes why KEYS can't be used, or why there is no file for the payload.
-fn write_why<E: Write>(end: &Result<(), StreamStop>, file: KeyFile<'_>, err: &mut E)
-    ensures { Wrote E.Write err.old err.new
-        (spec.why_line file.entry.fault.now (option_copied file.entry.bytes) end.now) }
+fn write_why<E: Write>(
+    end: &Result<(), StreamStop>,
+    file: KeyFile<'_>,
+    payload: Option<&str>,
+    err: &mut E,
+)
+    ensures { Wrote E.Write err.old err.new (spec.why_line file.entry.fault.now
+        (option_copied file.entry.bytes) (option_copied payload.entry) end.now) }
 {
     match end {
         Err(StreamStop::NotBegun(why)) => write_reason(*why, file, err),
-        Err(StreamStop::NoFile(why)) => write_indented(no_file_text(*why), "", err),
+        Err(StreamStop::NoFile(why)) => {
+            write_indented(file_name(payload), no_file_text(*why), err);
+        }
         Ok(()) | Err(StreamStop::Refused(_)) | Err(StreamStop::Stopped(_)) => {}
     }
 }
 
 /// Writes that parts of other runs are there, if they are, and flushes the writer.
-fn write_others<E: Write>(others: u8, err: &mut E)
-    ensures { Wrote E.Write err.old err.new (spec.others_line others) }
-{
-    write(others_text(others), err);
-}
-
-fn others_text(others: u8) -> &'static str
-    ensures { result.now ≡ spec.others_line others }
+fn write_others<E: Write>(others: u8, payload: Option<&str>, err: &mut E)
+    ensures { Wrote E.Write err.old err.new
+        (spec.others_line (option_copied payload.entry) others) }
 {
     if others == 0 {
-        return "";
+        hand_on(err);
+        return;
     }
-    "  FILE.part is there: another run is at it, or was killed\n"
+    write_indented(file_name(payload), OTHERS, err);
+    let _ = err.flush();
 }
 
-const OTHERS: &str = "FILE.part is there: another run is at it, or was killed";
+/// What is said after the name of FILE.
+const OTHERS: &str = ".part is there: another run is at it, or was killed";
+
+/// The name of FILE in a line.
+fn file_name(payload: Option<&str>) -> &str
+    ensures { result.now ≡ spec.file_name (option_copied payload.entry) }
+{
+    match payload {
+        Some(name) => visible_or("FILE", name),
+        None => "FILE",
+    }
+}
 
 /// Says why a run ended so.
 fn say_why<E: Write>(
@@ -121,15 +141,20 @@ fn say_why<E: Write>(
         Err(StreamStop::Refused(StreamRefusal::Judged)) => say_reason(teller.note, err),
         Err(StreamStop::Refused(why)) => write_more(refusal_text(*why), "", err),
         Err(StreamStop::Stopped(fault)) => say_fault(fault, teller.note, err),
-        Err(StreamStop::NoFile(why)) => write_more(no_file_text(*why), "", err),
+        Err(StreamStop::NoFile(why)) => {
+            write_more(file_name(teller.payload), no_file_text(*why), err);
+        }
     }
 }
 
 /// Says that parts of other runs are there, if they are.
-fn say_others<E: Write>(others: u8, err: &mut E)
+fn say_others<E: Write>(others: u8, payload: Option<&str>, err: &mut E)
     ensures { AddsReasons E.Write true err.old err.new }
 {
-    write_more(if 0 < others { OTHERS } else { "" }, "", err);
+    if 0 < others {
+        return write_more(file_name(payload), OTHERS, err);
+    }
+    write_more("", "", err);
 }
 
 /// What a refusal means in which the judge has no part.
@@ -149,17 +174,18 @@ fn refusal_text(why: StreamRefusal) -> &'static str {
     }
 }
 
+/// Why there is no file for the payload: what is said after the name of FILE.
 fn no_file_text(why: NoFile) -> &'static str
     ensures { result.now ≡ spec.no_file_text why }
 {
     match why {
-        NoFile::Dash => "FILE is -; a payload goes into a file, once its MAC is checked",
-        NoFile::Other => "FILE is there, and no regular file",
-        NoFile::Unknown => "it can't be told whether FILE is there",
-        NoFile::NoFolder => "the folder of FILE isn't there",
-        NoFile::NoPermission => "no permission to make FILE.part",
-        NoFile::NotMade => "FILE.part can't be made",
-        NoFile::Taken => "FILE.part and FILE.part1 to FILE.part99 are there",
+        NoFile::Dash => ": a payload goes into a file, once its MAC is checked",
+        NoFile::Other => ": it is there, and no regular file",
+        NoFile::Unknown => ": it can't be told whether it is there",
+        NoFile::NoFolder => ".part: no such folder",
+        NoFile::NoPermission => ".part: no permission",
+        NoFile::NotMade => ".part: it can't be made",
+        NoFile::Taken => ".part: it is there, and so are .part1 to .part99",
     }
 }
 
@@ -190,7 +216,7 @@ fn refused_line(why: StreamRefusal) -> &'static str
 }
 
 /// Writes a line, and flushes it.
-fn write<E: Write>(line: &str, err: &mut E)
+pub(crate) fn write<E: Write>(line: &str, err: &mut E)
     ensures { Wrote E.Write err.old err.new line.now }
 {
     let _ = err.write_all(line.as_bytes());
