@@ -4,4 +4,3 @@ pub mod Places
 pub mod RuledAsking
 pub mod StreamAsking
 pub mod Streaming
-pub mod Tokens
