@@ -6,7 +6,7 @@ use Rattle.ciborium_ll.specs.declared.hdr.Header.TheVariants.{Break, Simple}
 use Rattle.ciborium_ll.specs.declared.hdr.Error.{Error as HeadError}
 use Rattle.ciborium_ll.specs.declared.hdr.Error.TheVariants as below
 use Rattle.ciborium_ll.specs.Title.{Title, Begins, title_of, FitsHeader}
-use Rattle.ciborium_ll.specs.Reading.{Moves, TellsFault as HeadTells, Ends, IsBadByte, due}
+use Rattle.ciborium_ll.specs.Reading.{Moves, Tells as HeadTells, Ends, IsBadByte, due}
 use Rattle.ciborium_ll.proofs.Shortest.{title_of_is}
 use Rattle.ciborium.specs.declared.de.Error.{Error}
 use Rattle.ciborium.specs.declared.de.Error.TheVariants as de
