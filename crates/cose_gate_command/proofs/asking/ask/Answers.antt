@@ -2,7 +2,7 @@ use Rattle.std.proofs.Common.{refl, sym, ap, ◌∙◌}
 use Rattle.std.specs.Prelude.{option_copied, option_map}
 use Rattle.std.proofs.lemmas.Result.{err_from_is_err_and}
 use Rattle.cose_gate_command.specs.Arguments.{ask_view}
-use Rattle.cose_gate_command.specs.Asking.Asks.{not_run, after_run, by_rules}
+use Rattle.cose_gate_command.specs.Asking.AskEnds.{not_run, after_run, by_rules}
 use Rattle.cose_gate_command.proofs.NotRuns.{asks_usage, asks_not}
 use Rattle.cose_gate_command.proofs.asking.ask.Goals as goal
 
