@@ -131,7 +131,7 @@ mod tests {
     #[test]
     fn a_full_output(rt: HostRuntime) {
         assert!(rt; shown_in(&rt, rt.alloc(), &mut [0; 2]) == Err(Stop::Output));
-        assert!(rt; shown_in(&rt, rt.alloc(), &mut [0; 64]) == Ok(None));
+        assert!(rt; shown_in(&rt, rt.alloc(), &mut [0; 256]) == Ok(None));
     }
 
     #[test]
