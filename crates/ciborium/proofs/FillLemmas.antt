@@ -10,10 +10,9 @@ use Rattle.ciborium.specs.declared.frames.Frame.{Frame}
 use Rattle.ciborium.specs.declared.frames.Frame.TheVariants as code
 use Rattle.ciborium.specs.declared.frames.Items.{Items}
 use Rattle.ciborium.specs.declared.frames.Entries.{Entries}
-use Rattle.ciborium.specs.Damage.{Damage}
 use Rattle.ciborium.specs.Levels.{Titled}
-use Rattle.ciborium.specs.Reading.{IsLeaf, NamesFaultAfterTitle, ReadsAfterTitle}
-use Rattle.ciborium.specs.Frames.{opened, Stage, InHand, ClosedStage, AskEnds, AskGives, AskFails, HasHalf, halves_of, snoc, LeafPut, Puts, FillsFrame, FillEnds, FillGives}
+use Rattle.ciborium.specs.Reading.{IsLeaf, ReadsAfterTitle}
+use Rattle.ciborium.specs.Frames.{opened, Stage, InHand, ClosedStage, AskEnds, AskGives, AskFails, HasHalf, halves_of, snoc, LeafRead, LeafFails, Puts, FillsFrame, FillEnds, FillGives}
 use Rattle.ciborium.proofs.Once.{append_nil}
 use Rattle.ciborium.proofs.Taking.{takes_then}
 use Rattle.ciborium.proofs.LevelLemmas.{titled_fails}
@@ -76,10 +75,10 @@ fills_leaf f g g' h at v old mid mid' new u w w' t a leaf r puts = record {
 }
 
 -- a leaf is put into an array and into a map
-pub leaf_items : (h : Header) (l m : Items) (s s' : Seen) → m.count ≡ l.count → ((v : Value) × Takes s s' (λ b. (limit : ℕ) → ReadsAfterTitle h limit (view v) b) × (m.items.items ≡ l.items.items ++ v ∷ [])) → LeafPut h (code.Items l) (code.Items m) s s'
+pub leaf_items : (h : Header) (l m : Items) (s s' : Seen) → m.count ≡ l.count → LeafRead h (λ v. m.items.items ≡ l.items.items ++ v ∷ []) s s' → LeafRead h (Puts (code.Items l) (code.Items m)) s s'
 leaf_items h l m s s' same p = (p.0, p.1, λ w fs. items_more fs l m p.0 w same p.2)
 
-pub leaf_entries : (h : Header) (l m : Entries) (s s' : Seen) → m.count ≡ l.count → HasHalf m → ((v : Value) × Takes s s' (λ b. (limit : ℕ) → ReadsAfterTitle h limit (view v) b) × (halves_of m ≡ snoc (halves_of l) (view v))) → LeafPut h (code.Entries l) (code.Entries m) s s'
+pub leaf_entries : (h : Header) (l m : Entries) (s s' : Seen) → m.count ≡ l.count → HasHalf m → LeafRead h (λ v. halves_of m ≡ snoc (halves_of l) (view v)) s s' → LeafRead h (Puts (code.Entries l) (code.Entries m)) s s'
 leaf_entries h l m s s' same half p = (p.0, p.1, λ w fs. entries_more fs l m p.0 w same half p.2)
 
 -- a fault after them is one of the level
@@ -91,7 +90,7 @@ fills_fail ends f g old mid new u w e t a limit from fs b off s =
 
 -- a fault of the item whose title was taken
 pub leaf_asked_fails : {E : Type 0} (ends : E → Bool) (g : Frame) (h : Header) (at : ℕ) (mid mid' new : Seen) (w w' : Bool) (e : Error E) → Takes mid mid' (AskGives g h at mid.offset w w')
-    → ((low : ℕ) → NamesFaultAfterTitle ends h at (λ stop b f. Damage stop b low f) mid' new e) → AskFails ends g mid new e
+    → LeafFails ends h at mid' new e → AskFails ends g mid new e
 leaf_asked_fails ends g h at mid mid' new w w' e a r limit from fs b off s =
     let q = a.has false limit from fs b (unasked_as false w limit (g ∷ fs) None from mid.offset b s) in
     let t = subst (λ (z : ℕ). Titled limit (opened (g ∷ fs)) h at from z (b ++ a.bytes)) (sym a.grown) q.1.0 in

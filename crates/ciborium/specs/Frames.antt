@@ -17,7 +17,7 @@ use Rattle.ciborium.specs.declared.frames.Opened.{Opened}
 use Rattle.ciborium.specs.declared.frames.Opened.TheVariants as opens
 use Rattle.ciborium.specs.Damage.{Damage}
 use Rattle.ciborium.specs.Front.{Reads, HoldsOne}
-use Rattle.ciborium.specs.Reading.{IfKnown, FailsAt, Closes, OpensOver, ReadsAfterTitle}
+use Rattle.ciborium.specs.Reading.{IfKnown, FailsAt, Closes, OpensOver, ReadsAfterTitle, NamesFaultAfterTitle}
 use Rattle.ciborium.specs.Exact.{Says, IsEncoded, encoded, LevelsExact, TitleExact, ItemExact}
 use Rattle.ciborium.specs.Levels.{Level, Within, Titled, Handing}
 
@@ -172,9 +172,13 @@ HalfIn (code.Tag n at h room) = Unit {0}
 abbrev pub Puts : Frame → Frame → Value → Type 0
 Puts old new v = (w : Bool) (fs : List Frame) → IsHandedOver (old ∷ fs) (new ∷ fs) v None w w
 
--- an item whose title has the header h, and in which no items follow, is read and put into it
-abbrev pub LeafPut : Header → Frame → Frame → Seen → Seen → Type 0
-LeafPut h old new s s' = (v : Value) × Takes s s' (λ b. (limit : ℕ) → ReadsAfterTitle h limit (view v) b) × Puts old new v
+-- an item whose title has the header h, and in which no items follow, is read, and has Q
+abbrev pub LeafRead : Header → (Value → Type 0) → Seen → Seen → Type 0
+LeafRead h Q old new = (v : Value) × Takes old new (λ b. (limit : ℕ) → ReadsAfterTitle h limit (view v) b) × Q v
+
+-- a fault of such an item, whose title begins at the place `at`
+abbrev pub LeafFails : {E : Type 0} → (E → Bool) → Header → ℕ → Seen → Seen → Error E → Type 0
+LeafFails ends h at old new e = (limit : ℕ) → NamesFaultAfterTitle ends h at (λ stop b f. Damage stop b limit f) old new e
 
 -- items that no items follow in, of the bytes y from the place `now` on, were put into it
 abbrev pub FillsFrame : Frame → Frame → ℕ → Bool → Bool → List ℕ → Type 0
@@ -193,6 +197,11 @@ FillEnds old new now w w' y = (k : Bool) (limit from : ℕ) (fs : List Frame) (b
 abbrev pub FillGives : Frame → Frame → Header → ℕ → ℕ → Bool → Bool → List ℕ → Type 0
 FillGives old new h at now w w' y = (k : Bool) (limit from : ℕ) (fs : List Frame) (b : List ℕ) → Stage k w limit (old ∷ fs) None from now b
     → HaveHalf (new ∷ fs) × InHand k w' limit (opened (new ∷ fs)) h at from (now + length y) (b ++ y)
+
+-- up to its end, or up to the title of an item that items follow in
+abbrev pub Fills : Frame → Frame → Bool → Bool → Seen → Seen → Option (ℕ × Header) → Type 0
+Fills old new w w' s s' None = Takes s s' (FillEnds old new s.offset w w')
+Fills old new w w' s s' (Some r) = Takes s s' (FillGives old new r.1 r.0 s.offset w w')
 
 -- a frame of an item with the header h that was opened, and y after its title, which ended at the
 -- place `now`

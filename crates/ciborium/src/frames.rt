@@ -25,7 +25,7 @@ ghost use Rattle.ciborium.specs.Frames.{IsHandedOver};
 ghost use Rattle.ciborium.specs.Frames.{IsKept, CloseGives, ReadExact, HandFails};
 ghost use Rattle.ciborium.specs.Frames.{AskFails, Opening, BeginsItem, BeginFails};
 ghost use Rattle.ciborium.specs.Frames.{Holds, in_hand, rank, room_of, HalfIn};
-ghost use Rattle.ciborium.specs.Frames.{FillEnds, FillGives, FillHolds};
+ghost use Rattle.ciborium.specs.Frames.{Fills, FillHolds, LeafRead, LeafFails};
 ghost use Rattle.ciborium.specs.Front.{Reads, HoldsOne};
 ghost use Rattle.ciborium.specs.Fronts.{IsFront, IsTagged, IsMessage};
 
@@ -254,14 +254,12 @@ fn push_leaf<R: Read>(
 ) -> Result<(), Error<R::Error>>
     requires fresh { waiting_of decoder.old ≡ None }
     requires leaf { IsLeaf (last_head decoder.old) }
-    ensures ok { OnOk result ((v : Value)
-        × Takes (seen R.Read decoder.old) (seen R.Read decoder.new)
-        (λ b. (limit : ℕ) → ReadsAfterTitle (last_head decoder.old) limit (view v) b)
-        × (list.new.items.items ≡ list.old.items.items ++ v ∷ [])) }
+    ensures ok { OnOk result (LeafRead (last_head decoder.old)
+        (λ v. list.new.items.items ≡ list.old.items.items ++ v ∷ [])
+        (seen R.Read decoder.old) (seen R.Read decoder.new)) }
     ensures count { list.new.count ≡ list.old.count }
-    ensures err { IfErr result (λ e. (limit : ℕ)
-        → NamesFaultAfterTitle R.ends (last_head decoder.old) at (λ stop b f. Damage stop b limit f)
-        (seen R.Read decoder.old) (seen R.Read decoder.new) e) }
+    ensures err { IfErr result (LeafFails R.ends (last_head decoder.old) at
+        (seen R.Read decoder.old) (seen R.Read decoder.new)) }
     ensures leaves { Leaves R.ends (OneAfterTitle (last_head decoder.old)) result
         (seen R.Read decoder.old) (seen R.Read decoder.new) }
 {
@@ -297,14 +295,12 @@ fn push_other<R: Read>(
 ) -> Result<(), Error<R::Error>>
     requires fresh { waiting_of decoder.old ≡ None }
     requires leaf { IsLeaf (last_head decoder.old) }
-    ensures ok { OnOk result ((v : Value)
-        × Takes (seen R.Read decoder.old) (seen R.Read decoder.new)
-        (λ b. (limit : ℕ) → ReadsAfterTitle (last_head decoder.old) limit (view v) b)
-        × (list.new.items.items ≡ list.old.items.items ++ v ∷ [])) }
+    ensures ok { OnOk result (LeafRead (last_head decoder.old)
+        (λ v. list.new.items.items ≡ list.old.items.items ++ v ∷ [])
+        (seen R.Read decoder.old) (seen R.Read decoder.new)) }
     ensures count { list.new.count ≡ list.old.count }
-    ensures err { IfErr result (λ e. (limit : ℕ)
-        → NamesFaultAfterTitle R.ends (last_head decoder.old) at (λ stop b f. Damage stop b limit f)
-        (seen R.Read decoder.old) (seen R.Read decoder.new) e) }
+    ensures err { IfErr result (LeafFails R.ends (last_head decoder.old) at
+        (seen R.Read decoder.old) (seen R.Read decoder.new)) }
     ensures leaves { Leaves R.ends (OneAfterTitle (last_head decoder.old)) result
         (seen R.Read decoder.old) (seen R.Read decoder.new) }
 {
@@ -352,15 +348,13 @@ fn put_half_leaf<R: Read>(
     requires fresh { waiting_of decoder.old ≡ None }
     requires leaf { IsLeaf (last_head decoder.old) }
     requires half { HasHalf list.old }
-    ensures ok { OnOk result ((v : Value)
-        × Takes (seen R.Read decoder.old) (seen R.Read decoder.new)
-        (λ b. (limit : ℕ) → ReadsAfterTitle (last_head decoder.old) limit (view v) b)
-        × (halves_of list.new ≡ snoc (halves_of list.old) (view v))) }
+    ensures ok { OnOk result (LeafRead (last_head decoder.old)
+        (λ v. halves_of list.new ≡ snoc (halves_of list.old) (view v))
+        (seen R.Read decoder.old) (seen R.Read decoder.new)) }
     ensures count { list.new.count ≡ list.old.count }
     ensures half { OnOk result (HasHalf list.new) }
-    ensures err { IfErr result (λ e. (limit : ℕ)
-        → NamesFaultAfterTitle R.ends (last_head decoder.old) at (λ stop b f. Damage stop b limit f)
-        (seen R.Read decoder.old) (seen R.Read decoder.new) e) }
+    ensures err { IfErr result (LeafFails R.ends (last_head decoder.old) at
+        (seen R.Read decoder.old) (seen R.Read decoder.new)) }
     ensures leaves { Leaves R.ends (OneAfterTitle (last_head decoder.old)) result
         (seen R.Read decoder.old) (seen R.Read decoder.new) }
 {
@@ -397,15 +391,13 @@ fn put_half_other<R: Read>(
     requires fresh { waiting_of decoder.old ≡ None }
     requires leaf { IsLeaf (last_head decoder.old) }
     requires half { HasHalf list.old }
-    ensures ok { OnOk result ((v : Value)
-        × Takes (seen R.Read decoder.old) (seen R.Read decoder.new)
-        (λ b. (limit : ℕ) → ReadsAfterTitle (last_head decoder.old) limit (view v) b)
-        × (halves_of list.new ≡ snoc (halves_of list.old) (view v))) }
+    ensures ok { OnOk result (LeafRead (last_head decoder.old)
+        (λ v. halves_of list.new ≡ snoc (halves_of list.old) (view v))
+        (seen R.Read decoder.old) (seen R.Read decoder.new)) }
     ensures count { list.new.count ≡ list.old.count }
     ensures half { OnOk result (HasHalf list.new) }
-    ensures err { IfErr result (λ e. (limit : ℕ)
-        → NamesFaultAfterTitle R.ends (last_head decoder.old) at (λ stop b f. Damage stop b limit f)
-        (seen R.Read decoder.old) (seen R.Read decoder.new) e) }
+    ensures err { IfErr result (LeafFails R.ends (last_head decoder.old) at
+        (seen R.Read decoder.old) (seen R.Read decoder.new)) }
     ensures leaves { Leaves R.ends (OneAfterTitle (last_head decoder.old)) result
         (seen R.Read decoder.old) (seen R.Read decoder.new) }
 {
@@ -446,14 +438,8 @@ fn fill_items<R: Read>(
     exact: &mut Exactness,
 ) -> Result<Option<(usize, Header)>, Error<R::Error>>
     requires fresh { waiting_of decoder.old ≡ None }
-    ensures none { IfOk result (λ o. IfNone o
-        (Takes (seen R.Read decoder.old) (seen R.Read decoder.new)
-        (FillEnds (code.Items list.old) (code.Items list.new) (offset_of decoder.old)
-        exact.old.holds exact.new.holds))) }
-    ensures some { IfOk result (λ o. IfSome o (λ r.
-        Takes (seen R.Read decoder.old) (seen R.Read decoder.new)
-        (FillGives (code.Items list.old) (code.Items list.new) r.1 r.0 (offset_of decoder.old)
-        exact.old.holds exact.new.holds))) }
+    ensures ok { IfOk result (Fills (code.Items list.old) (code.Items list.new)
+        exact.old.holds exact.new.holds (seen R.Read decoder.old) (seen R.Read decoder.new)) }
     ensures moved { IfOk result (λ o. IfSome o (λ _.
         offset_of decoder.old + 1 ≤ offset_of decoder.new)) }
     ensures err { IfErr result (AskFails R.ends (code.Items list.old)
@@ -484,14 +470,8 @@ fn fill_entries<R: Read>(
 ) -> Result<Option<(usize, Header)>, Error<R::Error>>
     requires fresh { waiting_of decoder.old ≡ None }
     requires half { HasHalf list.old }
-    ensures none { IfOk result (λ o. IfNone o
-        (Takes (seen R.Read decoder.old) (seen R.Read decoder.new)
-        (FillEnds (code.Entries list.old) (code.Entries list.new) (offset_of decoder.old)
-        exact.old.holds exact.new.holds))) }
-    ensures some { IfOk result (λ o. IfSome o (λ r.
-        Takes (seen R.Read decoder.old) (seen R.Read decoder.new)
-        (FillGives (code.Entries list.old) (code.Entries list.new) r.1 r.0 (offset_of decoder.old)
-        exact.old.holds exact.new.holds))) }
+    ensures ok { IfOk result (Fills (code.Entries list.old) (code.Entries list.new)
+        exact.old.holds exact.new.holds (seen R.Read decoder.old) (seen R.Read decoder.new)) }
     ensures moved { IfOk result (λ o. IfSome o (λ _.
         offset_of decoder.old + 1 ≤ offset_of decoder.new)) }
     ensures err { IfErr result (AskFails R.ends (code.Entries list.old)
@@ -523,14 +503,8 @@ fn fill<R: Read>(
 ) -> Result<Option<(usize, Header)>, Error<R::Error>>
     requires fresh { waiting_of decoder.old ≡ None }
     requires half { HalfIn top.old }
-    ensures none { IfOk result (λ o. IfNone o
-        (Takes (seen R.Read decoder.old) (seen R.Read decoder.new)
-        (FillEnds top.old top.new (offset_of decoder.old)
-        exact.old.holds exact.new.holds))) }
-    ensures some { IfOk result (λ o. IfSome o (λ r.
-        Takes (seen R.Read decoder.old) (seen R.Read decoder.new)
-        (FillGives top.old top.new r.1 r.0 (offset_of decoder.old)
-        exact.old.holds exact.new.holds))) }
+    ensures ok { IfOk result (Fills top.old top.new exact.old.holds exact.new.holds
+        (seen R.Read decoder.old) (seen R.Read decoder.new)) }
     ensures moved { IfOk result (λ o. IfSome o (λ _.
         offset_of decoder.old + 1 ≤ offset_of decoder.new + in_hand top.old)) }
     ensures err { IfErr result (AskFails R.ends top.old
@@ -584,22 +558,21 @@ enum Opened {
 fn opening<R: Read>(
     alloc: Global,
     decoder: &mut Decoder<R>,
+    title: (usize, Header),
     room: usize,
-    at: usize,
-    header: Header,
     left: usize,
     exact: &mut Exactness,
 ) -> Result<Opened, Error<R::Error>>
     requires fresh { waiting_of decoder.old ≡ None }
     ensures ok { IfOk result (λ o. Takes (seen R.Read decoder.old) (seen R.Read decoder.new)
-        (Opening header at (offset_of decoder.old) left exact.old.holds exact.new.holds o)) }
+        (Opening title.1 title.0 (offset_of decoder.old) left exact.old.holds exact.new.holds o)) }
     ensures room { IfOk result (Holds room) }
-    ensures err { IfErr result (NamesFaultAfterTitle R.ends header at
+    ensures err { IfErr result (NamesFaultAfterTitle R.ends title.1 title.0
         (λ stop b f. Damage stop b left f) (seen R.Read decoder.old) (seen R.Read decoder.new)) }
-    ensures leaves { Leaves R.ends (OneAfterTitle header) result
+    ensures leaves { Leaves R.ends (OneAfterTitle title.1) result
         (seen R.Read decoder.old) (seen R.Read decoder.new) }
 {
-    match header {
+    match title.1 {
         Header::Array(count) => {
             if left == 0 {
                 return Err(Error::RecursionLimitExceeded);
@@ -638,7 +611,7 @@ fn opening<R: Read>(
             Ok(Opened::Level(Frame::Tag(n, place, inner, room)))
         }
         _ => {
-            let value = read_leaf(alloc, decoder, header, at)?;
+            let value = read_leaf(alloc, decoder, title.1, title.0)?;
             Ok(Opened::Leaf(value))
         }
     }
@@ -648,21 +621,20 @@ fn opening<R: Read>(
 fn open_first<R: Read>(
     alloc: Global,
     decoder: &mut Decoder<R>,
-    at: usize,
-    header: Header,
+    title: (usize, Header),
     limit: usize,
     exact: &mut Exactness,
 ) -> Result<Opened, Error<R::Error>>
     requires fresh { waiting_of decoder.old ≡ None }
     ensures ok { IfOk result (λ o. Takes (seen R.Read decoder.old) (seen R.Read decoder.new)
-        (Opening header at (offset_of decoder.old) limit exact.old.holds exact.new.holds o)) }
+        (Opening title.1 title.0 (offset_of decoder.old) limit exact.old.holds exact.new.holds o)) }
     ensures room { IfOk result (Holds 128) }
-    ensures err { IfErr result (NamesFaultAfterTitle R.ends header at
+    ensures err { IfErr result (NamesFaultAfterTitle R.ends title.1 title.0
         (λ stop b f. Damage stop b limit f) (seen R.Read decoder.old) (seen R.Read decoder.new)) }
-    ensures leaves { Leaves R.ends (OneAfterTitle header) result
+    ensures leaves { Leaves R.ends (OneAfterTitle title.1) result
         (seen R.Read decoder.old) (seen R.Read decoder.new) }
 {
-    opening(alloc, decoder, ROOM, at, header, limit, exact)
+    opening(alloc, decoder, title, ROOM, limit, exact)
 }
 
 /// Begins the item of a title: opens its level, or gives its value.
@@ -691,7 +663,7 @@ fn begin<R: Read>(
         (seen R.Read decoder.old) (seen R.Read decoder.new) }
 {
     let left = limit.saturating_sub(below.len()).saturating_sub(1);
-    match opening(alloc, decoder, room_in(top), title.0, title.1, left, exact)? {
+    match opening(alloc, decoder, title, room_in(top), left, exact)? {
         Opened::Level(frame) => {
             let Ok(()) = below.push(mem::replace(top, frame)) else {
                 return Err(Error::Memory);
@@ -702,27 +674,26 @@ fn begin<R: Read>(
     }
 }
 
-/// The item after the title of `header`, which begins at the place `at`. `exact` tells whether the
-/// bytes so far are canonical encoding, and stays false once they aren't.
+/// The item after the title `first`: its place and its header. `exact` tells whether the bytes so
+/// far are canonical encoding, and stays false once they aren't.
 pub fn read_item<R: Read>(
     alloc: Global,
     decoder: &mut Decoder<R>,
-    header: Header,
-    at: usize,
+    first: (usize, Header),
     limit: usize,
     exact: &mut Exactness,
     spare: &mut Spare,
 ) -> Result<Value, Error<R::Error>>
     requires fresh { waiting_of decoder.old ≡ None }
-    requires titled { (title : List ℕ) × Title title header }
+    requires titled { (title : List ℕ) × Title title first.1 }
     ensures ok { IfOk result (λ v. Takes (seen R.Read decoder.old) (seen R.Read decoder.new)
-        (ReadExact header limit (view v) exact.old.holds exact.new.holds)) }
-    ensures err { IfErr result (NamesFaultAfterTitle R.ends header at
+        (ReadExact first.1 limit (view v) exact.old.holds exact.new.holds)) }
+    ensures err { IfErr result (NamesFaultAfterTitle R.ends first.1 first.0
         (λ stop b f. Damage stop b limit f) (seen R.Read decoder.old) (seen R.Read decoder.new)) }
-    ensures leaves { Leaves R.ends (OneAfterTitle header) result
+    ensures leaves { Leaves R.ends (OneAfterTitle first.1) result
         (seen R.Read decoder.old) (seen R.Read decoder.new) }
 {
-    let mut top = match open_first(alloc, decoder, at, header, limit, exact)? {
+    let mut top = match open_first(alloc, decoder, first, limit, exact)? {
         Opened::Level(frame) => frame,
         Opened::Leaf(value) => return Ok(value),
     };
@@ -795,7 +766,7 @@ pub fn read_headed<R: Read>(
         _ => {
             let header = decoder.head();
             let mut exact = Exactness { holds: false };
-            read_item(alloc, decoder, header, at, limit, &mut exact, spare)
+            read_item(alloc, decoder, (at, header), limit, &mut exact, spare)
         }
     }
 }

@@ -9,11 +9,11 @@ ghost use Rattle.ciborium_ll.specs.declared.hdr.Header.TheVariants.{Bytes, Break
 ghost use Rattle.ciborium_value.specs.Folding.{tagged};
 ghost use Rattle.ciborium_value.specs.Tree.{bytes, tag};
 ghost use Rattle.ciborium.specs.Exact.{encoded};
-ghost use Rattle.ciborium.specs.Frames.{IsLengthOf, IsLow};
+ghost use Rattle.ciborium.specs.Frames.{IsLengthOf, IsLow, LeafFails};
 ghost use Rattle.ciborium_value.specs.View.{view};
 ghost use Rattle.ciborium.specs.Meaning.{simple_meaning};
-ghost use Rattle.ciborium.specs.Damage.{Damage, TitleDamage};
-ghost use Rattle.ciborium.specs.Reading.{NamesFault, NamesFaultAfterTitle, Steady, TakesSome};
+ghost use Rattle.ciborium.specs.Damage.{TitleDamage};
+ghost use Rattle.ciborium.specs.Reading.{NamesFault, Steady, TakesSome};
 ghost use Rattle.ciborium.specs.Reading.{ReadsAfterTitle, TagDamage, is_full, IsLeaf, Closes};
 ghost use Rattle.ciborium.specs.Reading.{IsNext, OpensOver, IsFoldFault};
 ghost use Rattle.ciborium.specs.Reading.{IsNoMemory, Leaves, OneAfterTitle};
@@ -53,9 +53,8 @@ pub fn read_leaf<R: Read>(
     requires leaf { IsLeaf header }
     ensures ok { IfOk result (λ v. Takes (seen R.Read decoder.old) (seen R.Read decoder.new)
         (λ b. (limit : ℕ) → ReadsAfterTitle header limit (view v) b)) }
-    ensures err { IfErr result (λ e. (limit : ℕ)
-        → NamesFaultAfterTitle R.ends header at (λ stop b f. Damage stop b limit f)
-        (seen R.Read decoder.old) (seen R.Read decoder.new) e) }
+    ensures err { IfErr result (LeafFails R.ends header at
+        (seen R.Read decoder.old) (seen R.Read decoder.new)) }
     ensures bytes { IfOk result (λ v. (o : Option ℕ) → header ≡ Bytes o
         → (x : List ℕ) × (view v ≡ bytes x)) }
     ensures leaves { Leaves R.ends (OneAfterTitle header) result

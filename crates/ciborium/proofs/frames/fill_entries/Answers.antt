@@ -12,13 +12,13 @@ use Rattle.ciborium.proofs.frames.fill_entries.Goals as goal
 pub parts-init : goal.parts-init
 parts-init g c = record { taken = takes_none _ _ _ (fills_none (code.Entries c.args.list.now) (offset_of c.args.decoder.now) c.args.exact.now.holds); half = c.requires.half; failed = refl; kept = refl; fresh = c.requires.fresh }
 
-pub returns-then-not-more-clause-none : goal.returns-then-not-more-clause-none
-returns-then-not-more-clause-none g c =
+pub returns-then-not-more-clause-ok : goal.returns-then-not-more-clause-ok
+returns-then-not-more-clause-ok g c =
     fills_end (code.Entries c.args.list.now) (code.Entries c.parts.list) (seen g.R.Read c.args.decoder.now) (seen g.R.Read c.parts.decoder) (seen g.R.Read c.next_half.new.decoder) c.args.exact.now.holds c.parts.exact.holds c.parts.exact.holds
     refl c.parts.invariant.taken (entries_ended c.parts.list (seen g.R.Read c.parts.decoder) (seen g.R.Read c.next_half.new.decoder) (c.in_ok-more.ensures.none (search rules)))
 
-pub returns-then-not-is_leaf_head-clause-some : goal.returns-then-not-is_leaf_head-clause-some
-returns-then-not-is_leaf_head-clause-some g c =
+pub returns-then-not-is_leaf_head-clause-ok : goal.returns-then-not-is_leaf_head-clause-ok
+returns-then-not-is_leaf_head-clause-ok g c =
     let asked = entries_asked c.parts.list (last_head c.next_half.new.decoder) (seen g.R.Read c.parts.decoder) (seen g.R.Read c.next_half.new.decoder) c.parts.exact.holds c.head.new.self.holds (shortest_of c.next_half.new.decoder) (c.in_ok-more.ensures.some (search rules)) (λ e. c.in_ok-more.ensures.next e (search rules)) c.head.ensures in
     rw (c.offset-at.ensures, c.head-then-not-is_leaf_head.ensures) (fills_give (code.Entries c.args.list.now) (code.Entries c.parts.list) (last_head c.next_half.new.decoder) (offset_of c.parts.decoder) (seen g.R.Read c.args.decoder.now) (seen g.R.Read c.parts.decoder) (seen g.R.Read c.next_half.new.decoder) c.args.exact.now.holds c.parts.exact.holds c.head.new.self.holds c.parts.invariant.taken asked)
 

@@ -12,14 +12,14 @@ use Rattle.ciborium.proofs.frames.fill_items.Goals as goal
 pub parts-init : goal.parts-init
 parts-init g c = record { taken = takes_none _ _ _ (fills_none (code.Items c.args.list.now) (offset_of c.args.decoder.now) c.args.exact.now.holds); failed = refl; kept = refl; fresh = c.requires.fresh }
 
-pub returns-then-not-more-clause-none : goal.returns-then-not-more-clause-none
-returns-then-not-more-clause-none g c =
+pub returns-then-not-more-clause-ok : goal.returns-then-not-more-clause-ok
+returns-then-not-more-clause-ok g c =
     let n : c.len.result ≡ length c.parts.list.items.items = omega (arith, c.len.ensures, c.parts.list.items.ok.0) in
     fills_end (code.Items c.args.list.now) (code.Items c.parts.list) (seen g.R.Read c.args.decoder.now) (seen g.R.Read c.parts.decoder) (seen g.R.Read c.next_part.new.decoder) c.args.exact.now.holds c.parts.exact.holds c.parts.exact.holds
     refl c.parts.invariant.taken (items_ended c.parts.list _ (seen g.R.Read c.parts.decoder) (seen g.R.Read c.next_part.new.decoder) n (c.in_ok-more.ensures.none (search rules)))
 
-pub returns-then-not-is_leaf_head-clause-some : goal.returns-then-not-is_leaf_head-clause-some
-returns-then-not-is_leaf_head-clause-some g c =
+pub returns-then-not-is_leaf_head-clause-ok : goal.returns-then-not-is_leaf_head-clause-ok
+returns-then-not-is_leaf_head-clause-ok g c =
     let n : c.len.result ≡ length c.parts.list.items.items = omega (arith, c.len.ensures, c.parts.list.items.ok.0) in
     let asked = items_asked c.parts.list c.len.result (last_head c.next_part.new.decoder) (seen g.R.Read c.parts.decoder) (seen g.R.Read c.next_part.new.decoder) c.parts.exact.holds c.head.new.self.holds (shortest_of c.next_part.new.decoder) n (c.in_ok-more.ensures.some (search rules)) (c.in_ok-more.ensures.next (search rules)) c.head.ensures in
     rw (c.offset-at.ensures, c.head-then-not-is_leaf_head.ensures) (fills_give (code.Items c.args.list.now) (code.Items c.parts.list) (last_head c.next_part.new.decoder) (offset_of c.parts.decoder) (seen g.R.Read c.args.decoder.now) (seen g.R.Read c.parts.decoder) (seen g.R.Read c.next_part.new.decoder) c.args.exact.now.holds c.parts.exact.holds c.head.new.self.holds c.parts.invariant.taken asked)

@@ -17,19 +17,19 @@ use Rattle.ciborium.proofs.Passing.{passed_on}
 use Rattle.ciborium.proofs.frames.opening.Goals as goal
 
 pub returns-then-left-eq0-clause-err : goal.returns-then-left-eq0-clause-err
-returns-then-left-eq0-clause-err g c = rw c.in-Array.is (deep_fails g.R.Read.ends (Array c.in-Array.count) c.args.left c.args.at _ _ c.if-left-eq0.true (λ r. level_array _))
+returns-then-left-eq0-clause-err g c = rw c.in-Array.is (deep_fails g.R.Read.ends (Array c.in-Array.count) c.args.left c.args.title.0 _ _ c.if-left-eq0.true (λ r. level_array _))
 
 pub returns-then-left-eq0-2-clause-err : goal.returns-then-left-eq0-2-clause-err
-returns-then-left-eq0-2-clause-err g c = rw c.in-Map.is (deep_fails g.R.Read.ends (Map c.in-Map.count) c.args.left c.args.at _ _ c.if-left-eq0-2.true (λ r. level_map _))
+returns-then-left-eq0-2-clause-err g c = rw c.in-Map.is (deep_fails g.R.Read.ends (Map c.in-Map.count) c.args.left c.args.title.0 _ _ c.if-left-eq0-2.true (λ r. level_map _))
 
 pub returns-in_err-place-in-Tag-clause-err : goal.returns-in_err-place-in-Tag-clause-err
 returns-in_err-place-in-Tag-clause-err g c =
-    passed_on _ _ c.from_residual.ensures.1 (rw c.in-Tag.is (tag_fails g.R.Read.ends c.in-Tag.n c.args.at c.args.left _ _ _ _ c.in_err-place-in-Tag.ensures.err))
+    passed_on _ _ c.from_residual.ensures.1 (rw c.in-Tag.is (tag_fails g.R.Read.ends c.in-Tag.n c.args.title.0 c.args.left _ _ _ _ c.in_err-place-in-Tag.ensures.err))
 
 pub returns-then-not-low-clause-err : goal.returns-then-not-low-clause-err
 returns-then-not-low-clause-err g c =
     let deep = rw c.if-not-low.true at c.is_low-low.ensures in
-    rw c.in-Tag.is (tag_fails g.R.Read.ends c.in-Tag.n c.args.at c.args.left _ _ (seen g.R.Read c.tagged_title.new.decoder).offset RecursionLimitExceeded
+    rw c.in-Tag.is (tag_fails g.R.Read.ends c.in-Tag.n c.args.title.0 c.args.left _ _ (seen g.R.Read c.tagged_title.new.decoder).offset RecursionLimitExceeded
     (level_deep g.R.Read.ends c.in-Tag.n c.args.left c.in_ok-place-in-Tag.inner
     (seen g.R.Read c.args.decoder.now).left (seen g.R.Read c.tagged_title.new.decoder).left
     (seen g.R.Read c.args.decoder.now).offset (seen g.R.Read c.tagged_title.new.decoder).offset deep.1 deep.0
@@ -45,14 +45,14 @@ returns-then-is_leaf-clause-ok g c =
     let low = rw c.if-not-low.false at c.is_low-low.ensures in
     let leaf = rw c.if-is_leaf.true at c.is_leaf.ensures in
     rw c.in-Tag.is (takes_then _ _ _ _ _ _ (λ b. Title b c.in_ok-place-in-Tag.inner × IsShortest (shortest_of c.tagged_title.new.decoder) b c.in_ok-place-in-Tag.inner) _ _ c.in_ok-place-in-Tag.ensures.ok c.in_ok-content-in-Tag.ensures.ok
-    (λ x y q s. tagged_leaf c.args.at _ c.args.left c.in-Tag.n c.in_ok-place-in-Tag.inner c.in_ok-content-in-Tag.content c.in_ok-whole-in-Tag.whole c.args.exact.now.holds c.title.new.self.holds c.tag_value.new.exact.holds x y leaf low q.0 (shortest_of c.tagged_title.new.decoder, q.1, c.title.ensures)
+    (λ x y q s. tagged_leaf c.args.title.0 _ c.args.left c.in-Tag.n c.in_ok-place-in-Tag.inner c.in_ok-content-in-Tag.content c.in_ok-whole-in-Tag.whole c.args.exact.now.holds c.title.new.self.holds c.tag_value.new.exact.holds x y leaf low q.0 (shortest_of c.tagged_title.new.decoder, q.1, c.title.ensures)
     c.in_ok-content-in-Tag.ensures.bytes c.in_ok-whole-in-Tag.ensures.ok c.in_ok-whole-in-Tag.ensures.kept s))
 
 pub returns-in_err-content-in-Tag-clause-err : goal.returns-in_err-content-in-Tag-clause-err
 returns-in_err-content-in-Tag-clause-err g c =
     let low = rw c.if-not-low.false at c.is_low-low.ensures in
     passed_on _ _ c.from_residual-in_err-content-in-Tag.ensures.1
-    (rw c.in-Tag.is (leaf_fails g.R.Read.ends c.args.left c.args.at c.in_ok-place-in-Tag.place c.in-Tag.n c.in_ok-place-in-Tag.inner (seen g.R.Read c.args.decoder.now) (seen g.R.Read c.tagged_title.new.decoder) (seen g.R.Read c.read_leaf.new.decoder) _ low c.in_ok-place-in-Tag.ensures.at
+    (rw c.in-Tag.is (leaf_fails g.R.Read.ends c.args.left c.args.title.0 c.in_ok-place-in-Tag.place c.in-Tag.n c.in_ok-place-in-Tag.inner (seen g.R.Read c.args.decoder.now) (seen g.R.Read c.tagged_title.new.decoder) (seen g.R.Read c.read_leaf.new.decoder) _ low c.in_ok-place-in-Tag.ensures.at
     (titled (seen g.R.Read c.args.decoder.now) (seen g.R.Read c.tagged_title.new.decoder) c.in_ok-place-in-Tag.inner (shortest_of c.tagged_title.new.decoder) c.in_ok-place-in-Tag.ensures.ok) c.in_err-content-in-Tag.ensures.err))
 
 pub returns-in_err-content-in-Tag-clause-leaves : goal.returns-in_err-content-in-Tag-clause-leaves
@@ -67,7 +67,7 @@ pub returns-in_err-whole-in-Tag-clause-err : goal.returns-in_err-whole-in-Tag-cl
 returns-in_err-whole-in-Tag-clause-err g c =
     let low = rw c.if-not-low.false at c.is_low-low.ensures in
     passed_on _ _ c.from_residual-in_err-whole-in-Tag.ensures.1
-    (rw c.in-Tag.is (leaf_folds g.R.Read.ends c.args.left c.args.at c.in-Tag.n c.in_ok-place-in-Tag.inner (view c.in_ok-content-in-Tag.content) (seen g.R.Read c.args.decoder.now) (seen g.R.Read c.tagged_title.new.decoder) (seen g.R.Read c.read_leaf.new.decoder) _ low
+    (rw c.in-Tag.is (leaf_folds g.R.Read.ends c.args.left c.args.title.0 c.in-Tag.n c.in_ok-place-in-Tag.inner (view c.in_ok-content-in-Tag.content) (seen g.R.Read c.args.decoder.now) (seen g.R.Read c.tagged_title.new.decoder) (seen g.R.Read c.read_leaf.new.decoder) _ low
     (titled (seen g.R.Read c.args.decoder.now) (seen g.R.Read c.tagged_title.new.decoder) c.in_ok-place-in-Tag.inner (shortest_of c.tagged_title.new.decoder) c.in_ok-place-in-Tag.ensures.ok) c.in_ok-content-in-Tag.ensures.ok c.in_ok-content-in-Tag.ensures.bytes c.in_err-whole-in-Tag.ensures.err))
 
 pub returns-in_err-whole-in-Tag-clause-leaves : goal.returns-in_err-whole-in-Tag-clause-leaves
@@ -80,7 +80,7 @@ returns-in_err-whole-in-Tag-clause-leaves g c = record {
 
 pub returns-in_ok-value-in_default-clause-ok : goal.returns-in_ok-value-in_default-clause-ok
 returns-in_ok-value-in_default-clause-ok g c =
-    takes_as _ _ _ _ _ _ c.in_ok-value-in_default.ensures.ok (λ y s. leaf_read c.args.header c.args.at _ c.args.left c.args.exact.now.holds c.in_ok-value-in_default.value y (search rules) s)
+    takes_as _ _ _ _ _ _ c.in_ok-value-in_default.ensures.ok (λ y s. leaf_read c.args.title.1 c.args.title.0 _ c.args.left c.args.exact.now.holds c.in_ok-value-in_default.value y (search rules) s)
 
 pub returns-in_err-value-in_default-clause-err : goal.returns-in_err-value-in_default-clause-err
 returns-in_err-value-in_default-clause-err g c =
@@ -92,11 +92,11 @@ returns-then-not-low-clause-leaves g c =
 
 pub returns-in_default-with_capacity-clause-leaves : goal.returns-in_default-with_capacity-clause-leaves
 returns-in_default-with_capacity-clause-leaves g c =
-    record { stops = search rules; one = takes_none _ _ _ (none_behind c.args.header); steady = search rules }
+    record { stops = search rules; one = takes_none _ _ _ (none_behind c.args.title.1); steady = search rules }
 
 pub returns-in_default-with_capacity-2-clause-leaves : goal.returns-in_default-with_capacity-2-clause-leaves
 returns-in_default-with_capacity-2-clause-leaves g c =
-    record { stops = search rules; one = takes_none _ _ _ (none_behind c.args.header); steady = search rules }
+    record { stops = search rules; one = takes_none _ _ _ (none_behind c.args.title.1); steady = search rules }
 
 pub returns-in_err-place-in-Tag-clause-leaves : goal.returns-in_err-place-in-Tag-clause-leaves
 returns-in_err-place-in-Tag-clause-leaves g c =

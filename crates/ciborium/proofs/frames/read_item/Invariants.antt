@@ -6,7 +6,7 @@ use Rattle.ciborium.proofs.frames.read_item.Given as goal
 
 abbrev pub invariant-turns : goal.invariant-turns
 invariant-turns g l = record {
-  turn : Turn l.limit l.fn.header l.fn.at (seen g.R.Read l.fn.decoder) (seen g.R.Read l.decoder) l.fn.exact.holds l.exact.holds (l.top ∷ reverse l.below.items) None;
+  turn : Turn l.limit l.fn.first.1 l.fn.first.0 (seen g.R.Read l.fn.decoder) (seen g.R.Read l.decoder) l.fn.exact.holds l.exact.holds (l.top ∷ reverse l.below.items) None;
   failed : g.R.Read.failed (reader_of l.decoder) ≡ g.R.Read.failed (reader_of l.fn.decoder);
   kept : g.R.Read.handle (reader_of l.decoder) ≡ g.R.Read.handle (reader_of l.fn.decoder);
   fresh : waiting_of l.decoder ≡ None;
