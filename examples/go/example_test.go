@@ -38,7 +38,7 @@ func ExampleCheck() {
 func ExamplePassSigned() {
 	checked, err := cosegate.PassSigned(read("keys.cbor"), []byte{1}, read("mixed.cbor"), false, isGood)
 	fmt.Println(len(checked.Passed), checked.SomeRefused, err)
-	// Output: 192 true <nil>
+	// Output: 190 true <nil>
 }
 
 func ExampleAskRuled() {
