@@ -158,9 +158,9 @@ fn ask_items<R: Read, W: Write, T: Teller>(
 
 /// Asks, by these rules, about the items of the input, as the gate does by these terms with `aad`
 /// as external data, and checks no signature. Of each item a block is written to `out` and handed
-/// on, which shows the questions, if the rules allow them all, and if the item has to be a token that
-/// passes and is one; then the item is told, and the teller rests, before more input is read. A
-/// block is linear in its item, and one item is held at a time.
+/// on, which shows the questions, if the rules allow them all, and if the item has to be a token
+/// that passes and is one; then the item is told, and the teller rests, before more input is read.
+/// A block is linear in its item, and one item is held at a time.
 ///
 /// The status is 0 if the rules refused no item, 1 if they refused some, and 4 if the gate
 /// stopped, if a block could not be handed on, or if it is out of memory. What a block says of a
