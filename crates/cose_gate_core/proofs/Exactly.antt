@@ -1,15 +1,17 @@
 -- A message's item is what is written for it exactly when it is spelled as its value is, and its
 -- value is the one that is written.
-use Rattle.std.proofs.Common.{◌≡◌, ◌≢◌, ◌^◌, ◌<◌, ℕ, List, Bool, true, false, Option, Some, None, option_map, refl, sym, ap, subst, ◌∙◌, arith}
-use Rattle.std.specs.Prelude.{MatchBool, MatchOption}
+use Rattle.std.proofs.Common.{◌≡◌, ◌≢◌, ◌^◌, ◌<◌, ℕ, List, Bool, true, false, Option, Some, None, Ok, Err, option_map, refl, sym, ap, subst, ◌∙◌, arith}
+use Rattle.std.specs.Prelude.{MatchBool, MatchOption, OnOk, Result}
 use Rattle.ciborium_value.specs.Tree.{Tree, tag}
 use Rattle.ciborium_value.specs.Encoding.{enc, Fits}
 use Rattle.ciborium.specs.Front.{Reads}
 use Rattle.coset_headers.proofs.Sound.{reads_sound, sound_reads}
 use Rattle.coset_headers.proofs.Unique.{readable_once}
 use Rattle.coset_labels.specs.Limits.{nesting_of}
+use Rattle.coset_labels.specs.declared.error.CoseError.{CoseError}
 use Rattle.cose_gate_core.specs.Questions.{MessageFields, sign1, mac0, sign, mac, number_of, kind_of, tag_of, message_tree, message_text, or_nothing}
 use Rattle.cose_gate_core.specs.Findings.{Bounds, HasMessage, Finds, judged}
+use Rattle.cose_gate_core.specs.Misshapen.{IsReadAs}
 use Rattle.cose_gate_core.specs.Passing.{IsRefused, IsTold}
 use Rattle.cose_gate_core.specs.Terms.{limits_of, IsTaken}
 use Rattle.cose_gate_core.specs.declared.about.MessageKind.{MessageKind}
@@ -74,21 +76,21 @@ module _ (l : Bounds) (n : ℕ) (b : List ℕ) (u : Tree) (m : MessageFields) wh
   told_of true false true has reads x t = let h : false ≡ true = (t refl).0 in cc
   told_of true exact false has reads x (q, f, differs) = (q, not_text exact has reads f (x refl) differs)
 
--- why a message of a kind is refused that was read under the kind's tag, or that it is judged
-pub found_as : (terms : Terms) (m : MessageFields) (k : MessageKind) (u : Tree) (b : List ℕ) (exact through : Bool) (r : Option Refusal) → kind_of m ≡ k → HasMessage (limits_of terms) u m
-    → IsTaken terms b (tag (number_of k) u) exact → Told (limits_of terms) (nesting_of terms.limits) b u m terms.strict exact through
-    → (IsTold (limits_of terms) b m through → MatchOption r (Finds (limits_of terms) b (tag (tag_of m) u) (judged m)) (IsRefused (limits_of terms) b (tag (tag_of m) u)))
-    → MatchOption r (Finds (limits_of terms) b (tag (number_of k) u) (judged m)) (IsRefused (limits_of terms) b (tag (number_of k) u))
-found_as terms m k u b exact through r e has taken told bar =
-    let l = limits_of terms in
+-- so of one that was read under the tag of a kind, if it could be read
+pub told_if : (terms : Terms) (m : MessageFields) (k : MessageKind) (u : Tree) (b : List ℕ) (exact through : Bool) (r : Result (Unit {0}) CoseError) → IsReadAs (limits_of terms) k m u r → IsTaken terms b (tag (number_of k) u) exact
+    → (HasMessage (limits_of terms) u m → Told (limits_of terms) (nesting_of terms.limits) b u m terms.strict exact through) → OnOk r (IsTold (limits_of terms) b m through)
+told_if terms m k u b exact through (Ok x) (e, has) taken told =
     let h : IsTaken terms b (tag (tag_of m) u) exact = subst (λ (j : MessageKind). IsTaken terms b (tag (number_of j) u) exact) (sym e) taken in
-    subst (λ (j : MessageKind). MatchOption r (Finds l b (tag (number_of j) u) (judged m)) (IsRefused l b (tag (number_of j) u))) e
-    (bar (told_of l (nesting_of terms.limits) b u m terms.strict exact through has h.0 h.1 told))
+    told_of (limits_of terms) (nesting_of terms.limits) b u m terms.strict exact through has h.0 h.1 (told has)
+told_if terms m k u b exact through (Err f) wrong taken told = tt
 
--- the same of a gate that isn't strict
-pub found_plain : (terms : Terms) (m : MessageFields) (k : MessageKind) (u : Tree) (b : List ℕ) (r : Option Refusal) → terms.strict ≡ false → kind_of m ≡ k → HasMessage (limits_of terms) u m
-    → Reads b (nesting_of terms.limits) (tag (number_of k) u)
-    → (IsTold (limits_of terms) b m true → MatchOption r (Finds (limits_of terms) b (tag (tag_of m) u) (judged m)) (IsRefused (limits_of terms) b (tag (tag_of m) u)))
-    → MatchOption r (Finds (limits_of terms) b (tag (number_of k) u) (judged m)) (IsRefused (limits_of terms) b (tag (number_of k) u))
-found_plain terms m k u b r plain e has reads bar =
-    found_as terms m k u b false true r e has (reads, λ s. (let no : false ≡ true = sym plain ∙ s in cc)) (λ s. (let no : false ≡ true = sym plain ∙ s in cc)) bar
+-- a gate that isn't strict may pass each
+pub told_lax : (l : Bounds) (b : List ℕ) (m : MessageFields) (r : Result (Unit {0}) CoseError) → l.strict ≡ false → OnOk r (IsTold l b m true)
+told_lax l b m (Ok x) plain = λ s. (let no : false ≡ true = sym plain ∙ s in cc)
+told_lax l b m (Err f) plain = tt
+
+-- why a message of a kind is refused that was read under the kind's tag, or that it is judged
+pub found_as : (l : Bounds) (m : MessageFields) (k : MessageKind) (u : Tree) (b : List ℕ) (r : Option Refusal) → kind_of m ≡ k
+    → MatchOption r (Finds l b (tag (tag_of m) u) (judged m)) (IsRefused l b (tag (tag_of m) u))
+    → MatchOption r (Finds l b (tag (number_of k) u) (judged m)) (IsRefused l b (tag (number_of k) u))
+found_as l m k u b r e bar = subst (λ (j : MessageKind). MatchOption r (Finds l b (tag (number_of j) u) (judged m)) (IsRefused l b (tag (number_of j) u))) e bar

@@ -110,23 +110,23 @@ module _ {T E : Type 0} (ends : E → Bool) (rules : ItemRules T) (n : ℕ) (sta
     (t : Takes start old (IsFront rules.limits.nesting (front.Four n))) where
   -- they were read, and it went through, or was stopped
   pub four_passed : {X : Type 0} (P : X → Trees → Type 0) (x : X) (v : Verdict) → TakesFour {E = E} ends limit P (Ok x) old new
-      → ((b : List ℕ) (u : Tree) (ts : Trees) → u ≡ array ts → Reads b rules.limits.nesting (tag n u) → P x ts → WentThrough rules b (tag n u) sight sight' v) → Passes ends rules start.left new.left start.offset new.offset sight sight' (Ok v)
+      → ((b : List ℕ) (u : Tree) (ts : Trees) → u ≡ array ts → P x ts → WentThrough rules b (tag n u) sight sight' v) → Passes ends rules start.left new.left start.offset new.offset sight sight' (Ok v)
   four_passed P x v w₀ f =
       let w : TakesFour {E = E} ends (rules.limits.nesting - 2) P (Ok x) old new = subst (λ (z : ℕ). TakesFour {E = E} ends z P (Ok x) old new) same w₀ in
       let y = (four_taken {E = E} ends n rules.limits.nesting P (Ok x) start old new which t w).ok in
       let r = y.has.1 in
       let k = y.has.2 in
       let reads : Reads y.bytes rules.limits.nesting (tag n (array k.0)) = subst (Reads y.bytes rules.limits.nesting) k.1 r in
-      (tag n (array k.0), record { bytes = y.bytes; has = (reads, f y.bytes (array k.0) k.0 refl reads k.2); taken = y.taken; grown = y.grown })
+      (tag n (array k.0), record { bytes = y.bytes; has = (reads, f y.bytes (array k.0) k.0 refl k.2); taken = y.taken; grown = y.grown })
 
   pub four_stopped : {X : Type 0} (P : X → Trees → Type 0) (x : X) (i : ItemFault) → TakesFour {E = E} ends limit P (Ok x) old new
-      → ((b : List ℕ) (u : Tree) (ts : Trees) → u ≡ array ts → Reads b rules.limits.nesting (tag n u) → P x ts → ItemFails rules b (tag n u) sight sight' i) → Passes ends rules start.left new.left start.offset new.offset sight sight' (Err (stopped_by i))
+      → ((b : List ℕ) (u : Tree) (ts : Trees) → u ≡ array ts → P x ts → ItemFails rules b (tag n u) sight sight' i) → Passes ends rules start.left new.left start.offset new.offset sight sight' (Err (stopped_by i))
   four_stopped P x i w₀ f =
       let w : TakesFour {E = E} ends (rules.limits.nesting - 2) P (Ok x) old new = subst (λ (z : ℕ). TakesFour {E = E} ends z P (Ok x) old new) same w₀ in
       let y = (four_taken {E = E} ends n rules.limits.nesting P (Ok x) start old new which t w).ok in
       let k = y.has.2 in
       let reads : Reads y.bytes rules.limits.nesting (tag n (array k.0)) = subst (Reads y.bytes rules.limits.nesting) k.1 y.has.1 in
-      inl (tag n (array k.0), i, refl, record { bytes = y.bytes; has = (reads, f y.bytes (array k.0) k.0 refl reads k.2); taken = y.taken; grown = y.grown })
+      inl (tag n (array k.0), i, refl, record { bytes = y.bytes; has = (reads, f y.bytes (array k.0) k.0 refl k.2); taken = y.taken; grown = y.grown })
 
 -- the bytes of an item that went through
 abbrev pub taken_of : {T E : Type 0} (ends : E → Bool) (rules : ItemRules T) (l l' : Option (List ℕ)) (p p' : ℕ) (s s' : ItemSight T) (v : Verdict) (w : Passes {E = E} ends rules l l' p p' s s' (Ok v))

@@ -7,6 +7,8 @@ use Rattle.ciborium_ll.specs.declared.write.Write.{Ghosts as Writes}
 use Rattle.cose_gate_core.specs.Findings.{Bounds}
 use Rattle.cose_gate_core.specs.Outcome.{Rules, GateState}
 use Rattle.cose_gate_core.specs.Passing.{ItemRules, ItemSight}
+use Rattle.cose_gate_core.specs.Terms.{limits_of}
+use Rattle.cose_gate_core.specs.declared.gating.ItemTerms.{ItemTerms}
 use Rattle.cose_gate_core.specs.declared.report.Report.{Ghosts as Reports}
 use Rattle.cose_gate_core.specs.declared.judge.Judge.{Ghosts as Judges}
 
@@ -35,9 +37,13 @@ sight_of r w p j decoder out report judge = record {
 }
 
 -- what one item goes by, and what is seen of the writer and the judge
-abbrev pub item_rules : {J : Type 0} → Bounds → (j : Judges J) → J → List ℕ → ItemRules j.Told
-item_rules limits j judge aad =
-    record { limits = limits; decided = j.decided; allows = j.yes (j.who judge); aad = aad }
+abbrev pub item_rules : {J : Type 0} → (j : Judges J) → J → ItemTerms → ItemRules j.Told
+item_rules j judge item = record {
+  limits = limits_of item.terms;
+  decided = j.decided;
+  allows = j.yes (j.who judge);
+  aad = item.aad.now;
+}
 
 abbrev pub item_sight : {W F J : Type 0} → (w : Writes W F) (j : Judges J) → W → J
     → ItemSight j.Told

@@ -1,7 +1,8 @@
 -- How far the gate has come, and what one item more makes of that.
-use Rattle.std.specs.Prelude.{◌≡◌, ℕ, ◌+◌, ◌<◌, ◌⊎◌, List, [], ◌∷◌, ◌++◌, length, map, Option, Some, None, Bool, Result, Ok, Err}
+use Rattle.std.specs.Prelude.{◌≡◌, ◌≢◌, ℕ, ◌+◌, ◌^◌, ◌<◌, ◌⊎◌, List, [], ◌∷◌, ◌++◌, length, map, Option, Some, None, Bool, Result, Ok, Err}
 use Rattle.std.specs.Io.KnownBytes.{Appends}
 use Rattle.ciborium_ll.specs.Reading.{Moves}
+use Rattle.ciborium_ll.specs.Seen.{Seen, Takes}
 use Rattle.ciborium_value.specs.Tree.{Tree}
 use Rattle.ciborium.specs.Front.{Reads, HoldsOne}
 use Rattle.ciborium.specs.declared.frames.Front.{Front}
@@ -42,10 +43,10 @@ pub record Reached {T S : Type 0} (rules : Rules T S) (old new : GateState T S)
 
 -- what reading the next item gives: it was taken, or no byte was left, and the reader tells so
 -- if it tells what is to come
-abbrev pub IsNext : Terms → Option (List ℕ) → Option (List ℕ) → ℕ → ℕ → Option (Front × Bool)
-    → Type 0
-IsNext terms left left' at at' None = IfKnown left (λ b. (b ≡ []) × (left' ≡ Some [])) × (at' ≡ at)
-IsNext terms left left' at at' (Some r) = Moves left left' at at' (IsTakenFront terms r.0 r.1)
+abbrev pub IsNext : Terms → Seen → Seen → Option (Front × Bool) → Type 0
+IsNext terms old new None =
+    IfKnown old.left (λ b. (b ≡ []) × (new.left ≡ Some [])) × (new.offset ≡ old.offset)
+IsNext terms old new (Some r) = Takes old new (IsTakenFront terms r.0 r.1)
 
 -- what reading the next item ends with, at the offset at' then: a fault of the bytes that were to
 -- come, if they are known, or being out of memory. Some of these bytes were taken, or none, but
@@ -59,6 +60,12 @@ IsReadFault ends n left left' at at' (Decode e) =
     × SomeTaken left left' at at' e
 IsReadFault ends n left left' at at' Write = ⊥
 IsReadFault ends n left left' at at' Memory = Moves left left' at at' HoldsOne
+
+-- of no bytes, unless the reader fails or offsets grow too long, there is no item; and it never ends
+-- out of memory
+abbrev pub IfNothing : {X E : Type 0} → Seen → Seen → Result (Option X) (GateFault E) → Type 0
+IfNothing old new result = old.left ≡ Some []
+    → (new.failed ≡ old.failed → old.offset + 4096 < 2 ^ 64 → result ≡ Ok None) × (result ≢ Err Memory)
 
 -- What became of the next item before it is noted. It was taken and went through, or stopped; or it
 -- was not, and nothing was told or written.

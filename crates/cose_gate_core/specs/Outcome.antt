@@ -1,5 +1,6 @@
 -- What a gate goes by, what is seen of it, and what its faults are.
-use Rattle.std.specs.Prelude.{◌≡◌, ◌≢◌, ℕ, ◌+◌, ◌^◌, ◌≤◌, List, [], Option, None, Bool, IsTrue, Result, Err, if◌then◌else◌}
+use Rattle.std.specs.Prelude.{◌≡◌, ◌≢◌, ℕ, ◌+◌, ◌^◌, ◌<◌, ◌≤◌, List, [], Option, None, Bool, IsTrue, Result, Err, if◌then◌else◌}
+use Rattle.ciborium_ll.specs.Seen.{Seen}
 use Rattle.ciborium.specs.Damage.{end, deep, syntax, semantic, Damage}
 use Rattle.ciborium.specs.declared.de.Error.{Error}
 use Rattle.ciborium.specs.declared.de.Error.TheVariants as de
@@ -50,6 +51,15 @@ reader_failures ends result = 0
 abbrev pub writer_failures : {X E : Type 0} → Result X (GateFault E) → ℕ
 writer_failures (Err Write) = 1
 writer_failures result = 0
+
+-- a failure of the reader is counted exactly when the result is one, the reader stays the same, no
+-- header waits, and the offset fits
+pub record KeepsReader {X E : Type 0} (ends : E → Bool) (result : Result X (GateFault E))
+    (old new : Seen) : Type 0 where
+  pub failed : new.failed ≡ old.failed + reader_failures ends result
+  pub handle : new.handle ≡ old.handle
+  pub waiting : new.waiting ≡ None
+  pub fits : new.offset < 2 ^ 64
 
 -- P holds if offsets grow too long
 abbrev pub IfTooLong : {E : Type 0} → Type 0 → GateFault E → Type 0

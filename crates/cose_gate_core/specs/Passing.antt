@@ -1,5 +1,5 @@
 -- What one item's way through the gate shows.
-use Rattle.std.specs.Prelude.{◌≡◌, ◌≢◌, ℕ, ◌⊎◌, List, Option, Bool, true, false, MatchBool, Result, Ok, Err}
+use Rattle.std.specs.Prelude.{◌≡◌, ◌≢◌, ℕ, ◌⊎◌, List, Option, Bool, true, false, MatchBool, MatchResult, Result, Ok, Err}
 use Rattle.std.specs.Io.KnownBytes.{Appends}
 use Rattle.ciborium_ll.specs.Device.{AppendsFront}
 use Rattle.ciborium_value.specs.Tree.{Tree}
@@ -86,6 +86,12 @@ abbrev pub ItemFails : {T : Type 0} → ItemRules T → List ℕ → Tree → It
 ItemFails rules bytes t old new fault.Write = HalfWritten rules bytes t old new
 ItemFails rules bytes t old new fault.Memory =
     (new.written ≡ old.written) × ((new.told ≡ old.told) ⊎ Half rules bytes t old new)
+
+-- what became of the item: it went through, or was stopped
+abbrev pub IsHandled : {T : Type 0} → ItemRules T → List ℕ → Tree → ItemSight T → ItemSight T
+    → Result Verdict ItemFault → Type 0
+IsHandled rules bytes t old new result =
+    MatchResult result (WentThrough rules bytes t old new) (ItemFails rules bytes t old new)
 
 -- what a fault of writing leaves: a beginning of the encoding. Writing takes no memory.
 abbrev pub IsWriteFault : Option (List ℕ) → Option (List ℕ) → List ℕ → ItemFault → Type 0

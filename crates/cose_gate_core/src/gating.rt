@@ -9,21 +9,21 @@ ghost use Rattle.ciborium.specs.Damage.{Damage};
 ghost use Rattle.ciborium.specs.Front.{HoldsOne};
 ghost use Rattle.ciborium.specs.Fronts.{IsFront, IsMessage};
 ghost use Rattle.ciborium.specs.declared.frames.Front.TheVariants.{Four};
-ghost use Rattle.ciborium.specs.Reading.{NamesFault, Steady, TakesSome, IsNoMemory, IfEnd};
-ghost use Rattle.ciborium.specs.Reading.{IfMemory, IsFar};
+ghost use Rattle.ciborium.specs.Reading.{NamesFault, Leaves, IsNoMemory, IfEnd, IsFar};
 ghost use Rattle.ciborium_ll.specs.Seen.{Seen, Takes};
 ghost use Rattle.ciborium_ll.specs.Views.{left_of, offset_of, waiting_of, reader_of, seen};
-ghost use Rattle.ciborium_value.specs.View.{view};
 ghost use Rattle.coset_labels.specs.Limits.{nesting_of};
 ghost use Rattle.cose_gate_core.specs.Calls.{rules_by, sight_of, item_rules, item_sight};
 ghost use Rattle.cose_gate_core.specs.GateRun.{Ran};
-ghost use Rattle.cose_gate_core.specs.Next.{IsNext, IsReadFault, Passes, PassesNext, GoesOn};
-ghost use Rattle.cose_gate_core.specs.Outcome.{IfTooLong, reader_failures, writer_failures};
+ghost use Rattle.cose_gate_core.specs.Next.{IsNext, IsReadFault, IfNothing, Passes};
+ghost use Rattle.cose_gate_core.specs.Next.{PassesNext, GoesOn};
+ghost use Rattle.cose_gate_core.specs.Outcome.{IfTooLong, KeepsReader, reader_failures};
+ghost use Rattle.cose_gate_core.specs.Outcome.{writer_failures};
 ghost use Rattle.cose_gate_core.specs.Passing.{at_end};
 ghost use Rattle.cose_gate_core.specs.ReasonNames.{fault_name};
 ghost use Rattle.cose_gate_core.specs.Run.{has_passed};
 ghost use Rattle.cose_gate_core.specs.Questions.{number_of};
-ghost use Rattle.cose_gate_core.specs.Terms.{limits_of, IsTaken, IsTakenFront};
+ghost use Rattle.cose_gate_core.specs.Terms.{limits_of, IsTakenFront};
 ghost use Rattle.cose_gate_core.specs.declared.gating.GateFault.TheVariants.{Write, Memory};
 
 use crate::judge::Judge;
@@ -138,33 +138,7 @@ fn is_end<R: Read>(error: &de::Error<R::Error>) -> bool
 }
 
 /// Reads an item, and if a strict gate asks it tells whether its bytes are the one encoding of its
-/// value.
-fn read_item<R: Read>(
-    alloc: Global,
-    terms: Terms,
-    decoder: &mut Decoder<R>,
-) -> Result<(Value, bool), de::Error<R::Error>>
-    requires { terms.strict ≡ true → waiting_of decoder.old ≡ None }
-    ensures ok { IfOk result (λ r. Takes (seen R.Read decoder.old) (seen R.Read decoder.new)
-        (λ b. IsTaken terms b (view r.0) r.1)) }
-    ensures err { IfErr result (NamesFault R.ends
-        (λ stop b f. Damage stop b (nesting_of terms.limits) f)
-        (seen R.Read decoder.old) (seen R.Read decoder.new)) }
-    ensures nothing { left_of R.left decoder.old ≡ Some [] → IfErr result IsNoMemory }
-    ensures some { left_of R.left decoder.old ≡ Some [] → OnOk result ⊥ }
-    ensures ended { left_of R.left decoder.old ≡ Some []
-        → IfErr result (IfEnd R.ends (left_of R.left decoder.new ≡ Some [])) }
-    ensures stops { IfErr result (TakesSome (seen R.Read decoder.old) (seen R.Read decoder.new)) }
-    ensures one { IfErr result (IfMemory (Takes (seen R.Read decoder.old)
-        (seen R.Read decoder.new) HoldsOne)) }
-    ensures steady { Steady R.ends result (seen R.Read decoder.old) (seen R.Read decoder.new) }
-    ensures fits { offset_of decoder.new < 2 ^ 64 }
-{
-    let nesting = terms.limits.nesting();
-    de::from_decoder_by(alloc, decoder, nesting, terms.strict)
-}
-
-/// As `read_item`, but a gate that isn't strict may get the heads of a message alone.
+/// value. A gate that isn't strict may get the heads of a message alone.
 fn front_of<R: Read>(
     alloc: Global,
     terms: Terms,
@@ -182,17 +156,16 @@ fn front_of<R: Read>(
     ensures some { left_of R.left decoder.old ≡ Some [] → OnOk result ⊥ }
     ensures ended { left_of R.left decoder.old ≡ Some []
         → IfErr result (IfEnd R.ends (left_of R.left decoder.new ≡ Some [])) }
-    ensures stops { IfErr result (TakesSome (seen R.Read decoder.old) (seen R.Read decoder.new)) }
-    ensures one { IfErr result (IfMemory (Takes (seen R.Read decoder.old)
-        (seen R.Read decoder.new) HoldsOne)) }
-    ensures steady { Steady R.ends result (seen R.Read decoder.old) (seen R.Read decoder.new) }
+    ensures leaves { Leaves R.ends HoldsOne result
+        (seen R.Read decoder.old) (seen R.Read decoder.new) }
     ensures fits { offset_of decoder.new < 2 ^ 64 }
 {
+    let nesting = terms.limits.nesting();
     if terms.strict || decoder.is_waiting() {
-        let (value, exact) = read_item(alloc, terms, decoder)?;
+        let (value, exact) = de::from_decoder_by(alloc, decoder, nesting, terms.strict)?;
         return Ok((Front::Item(value), exact));
     }
-    let front = read_front(alloc, decoder, terms.limits.nesting(), spare)?;
+    let front = read_front(alloc, decoder, nesting, spare)?;
     Ok((front, false))
 }
 
@@ -204,23 +177,13 @@ fn next_front<R: Read>(
     spare: &mut Spare,
 ) -> Result<Option<(Front, bool)>, GateFault<R::Error>>
     requires { terms.strict ≡ true → waiting_of decoder.old ≡ None }
-    ensures next { IfOk result (IsNext terms
-        (left_of R.left decoder.old) (left_of R.left decoder.new)
-        (offset_of decoder.old) (offset_of decoder.new)) }
+    ensures next { IfOk result (IsNext terms (seen R.Read decoder.old) (seen R.Read decoder.new)) }
     ensures message { IfOk result (λ next. IfSome next (λ f. IsMessage f.0)) }
     ensures err { IfErr result (IsReadFault R.ends (nesting_of terms.limits)
         (left_of R.left decoder.old) (left_of R.left decoder.new)
         (offset_of decoder.old) (offset_of decoder.new)) }
-    ensures nothing { left_of R.left decoder.old ≡ Some []
-        → R.failed (reader_of decoder.new) ≡ R.failed (reader_of decoder.old)
-        → offset_of decoder.old + 4096 < 2 ^ 64 → result ≡ Ok None }
-    ensures no_memory_of_nothing { left_of R.left decoder.old ≡ Some []
-        → result ≢ Err Memory }
-    ensures failed { R.failed (reader_of decoder.new)
-        ≡ R.failed (reader_of decoder.old) + reader_failures R.ends result }
-    ensures kept { R.handle (reader_of decoder.new) ≡ R.handle (reader_of decoder.old) }
-    ensures fits { offset_of decoder.new < 2 ^ 64 }
-    ensures fresh { waiting_of decoder.new ≡ None }
+    ensures nothing { IfNothing (seen R.Read decoder.old) (seen R.Read decoder.new) result }
+    ensures reader { KeepsReader R.ends result (seen R.Read decoder.old) (seen R.Read decoder.new) }
 {
     let offset = decoder.offset();
     match front_of(alloc, terms, decoder, spare) {
@@ -245,61 +208,20 @@ fn pass_four<M: Four, R: Read, W: Write, J: Judge>(
     ensures ran { (start : Seen) → (number_of M.kind ≡ 17) ⊎ (number_of M.kind ≡ 18)
         → Takes start (seen R.Read decoder.old)
         (IsFront (nesting_of item.entry.terms.limits) (Four (number_of M.kind)))
-        → Passes R.ends
-        (item_rules (limits_of item.entry.terms) J.Judge judge.old item.entry.aad.now)
+        → Passes R.ends (item_rules J.Judge judge.old item.entry)
         start.left (left_of R.left decoder.new) start.offset (offset_of decoder.new)
         (item_sight W.Write J.Judge out.old judge.old)
         (item_sight W.Write J.Judge out.new judge.new) result }
-    ensures reader { R.failed (reader_of decoder.new)
-        ≡ R.failed (reader_of decoder.old) + reader_failures R.ends result }
+    ensures reader { KeepsReader R.ends result (seen R.Read decoder.old) (seen R.Read decoder.new) }
     ensures writer { W.failed out.new ≡ W.failed out.old + writer_failures result }
-    ensures who { J.who judge.new ≡ J.who judge.old }
-    ensures kept { R.handle (reader_of decoder.new) ≡ R.handle (reader_of decoder.old) }
     ensures lent { W.handle out.new ≡ W.handle out.old }
-    ensures fits { offset_of decoder.new < 2 ^ 64 }
-    ensures fresh { waiting_of decoder.new ≡ None }
+    ensures who { J.who judge.new ≡ J.who judge.old }
 {
     let mut message = M::empty(alloc);
     let nesting = item.terms.limits.nesting();
     let read = message.walk(alloc, item.terms, nesting - 2, decoder, spare)?;
-    let verdict = pass_read(item, &message, read, out, judge)?;
+    let verdict = pass_read(item, &message, read, true, out, judge)?;
     Ok(verdict)
-}
-
-/// As `pass_four`, of the message whose tag has this number.
-fn pass_numbered<R: Read, W: Write, J: Judge>(
-    alloc: Global,
-    item: ItemTerms<'_>,
-    number: u64,
-    decoder: &mut Decoder<R>,
-    out: &mut W,
-    judge: &mut J,
-    spare: &mut Spare,
-) -> Result<Verdict, GateFault<R::Error>>
-    requires fresh { waiting_of decoder.old ≡ None }
-    requires message { (number ≡ 17) ⊎ (number ≡ 18) }
-    requires lax { item.terms.strict ≡ false }
-    ensures ran { (start : Seen) → Takes start (seen R.Read decoder.old)
-        (IsFront (nesting_of item.entry.terms.limits) (Four number))
-        → Passes R.ends
-        (item_rules (limits_of item.entry.terms) J.Judge judge.old item.entry.aad.now)
-        start.left (left_of R.left decoder.new) start.offset (offset_of decoder.new)
-        (item_sight W.Write J.Judge out.old judge.old)
-        (item_sight W.Write J.Judge out.new judge.new) result }
-    ensures reader { R.failed (reader_of decoder.new)
-        ≡ R.failed (reader_of decoder.old) + reader_failures R.ends result }
-    ensures writer { W.failed out.new ≡ W.failed out.old + writer_failures result }
-    ensures who { J.who judge.new ≡ J.who judge.old }
-    ensures kept { R.handle (reader_of decoder.new) ≡ R.handle (reader_of decoder.old) }
-    ensures lent { W.handle out.new ≡ W.handle out.old }
-    ensures fits { offset_of decoder.new < 2 ^ 64 }
-    ensures fresh { waiting_of decoder.new ≡ None }
-{
-    if number == CoseSign1::TAG {
-        pass_four::<CoseSign1, R, W, J>(alloc, item, decoder, out, judge, spare)
-    } else {
-        pass_four::<CoseMac0, R, W, J>(alloc, item, decoder, out, judge, spare)
-    }
 }
 
 /// Takes the next item, asks the judge about it, and writes it if it has passed; `None` if no byte
@@ -313,25 +235,16 @@ fn pass_next<R: Read, W: Write, J: Judge>(
     spare: &mut Spare,
 ) -> Result<Option<Verdict>, GateFault<R::Error>>
     requires fresh { item.terms.strict ≡ true → waiting_of decoder.old ≡ None }
-    ensures ran { PassesNext R.ends
-        (item_rules (limits_of item.entry.terms) J.Judge judge.old item.entry.aad.now)
+    ensures ran { PassesNext R.ends (item_rules J.Judge judge.old item.entry)
         (left_of R.left decoder.old) (left_of R.left decoder.new)
         (offset_of decoder.old) (offset_of decoder.new)
         (item_sight W.Write J.Judge out.old judge.old)
         (item_sight W.Write J.Judge out.new judge.new) result }
-    ensures nothing { left_of R.left decoder.old ≡ Some []
-        → R.failed (reader_of decoder.new) ≡ R.failed (reader_of decoder.old)
-        → offset_of decoder.old + 4096 < 2 ^ 64 → result ≡ Ok None }
-    ensures no_memory_of_nothing { left_of R.left decoder.old ≡ Some []
-        → result ≢ Err Memory }
-    ensures reader { R.failed (reader_of decoder.new)
-        ≡ R.failed (reader_of decoder.old) + reader_failures R.ends result }
+    ensures nothing { IfNothing (seen R.Read decoder.old) (seen R.Read decoder.new) result }
+    ensures reader { KeepsReader R.ends result (seen R.Read decoder.old) (seen R.Read decoder.new) }
     ensures writer { W.failed out.new ≡ W.failed out.old + writer_failures result }
-    ensures who { J.who judge.new ≡ J.who judge.old }
-    ensures kept { R.handle (reader_of decoder.new) ≡ R.handle (reader_of decoder.old) }
     ensures lent { W.handle out.new ≡ W.handle out.old }
-    ensures fits { offset_of decoder.new < 2 ^ 64 }
-    ensures fresh { waiting_of decoder.new ≡ None }
+    ensures who { J.who judge.new ≡ J.who judge.old }
 {
     let Some((front, exact)) = next_front(alloc, item.terms, decoder, spare)? else {
         return Ok(None);
@@ -341,8 +254,12 @@ fn pass_next<R: Read, W: Write, J: Judge>(
             let verdict = pass(alloc, item, exact, value, out, judge)?;
             Ok(Some(verdict))
         }
-        Front::Four(number) => {
-            let verdict = pass_numbered(alloc, item, number, decoder, out, judge, spare)?;
+        Front::Four(CoseSign1::TAG) => {
+            let verdict = pass_four::<CoseSign1, R, W, J>(alloc, item, decoder, out, judge, spare)?;
+            Ok(Some(verdict))
+        }
+        Front::Four(_) => {
+            let verdict = pass_four::<CoseMac0, R, W, J>(alloc, item, decoder, out, judge, spare)?;
             Ok(Some(verdict))
         }
     }
@@ -417,11 +334,7 @@ pub fn gate_next<R: Read, W: Write, P: Report, J: Judge>(
     ensures more { IfOk result (λ next. IfSome next (λ c.
         (offset_of decoder.old < offset_of decoder.new) × (c.passed + c.refused
         ≡ item.entry.counts.passed + item.entry.counts.refused + 1))) }
-    ensures nothing { left_of R.left decoder.old ≡ Some []
-        → R.failed (reader_of decoder.new) ≡ R.failed (reader_of decoder.old)
-        → offset_of decoder.old + 4096 < 2 ^ 64 → result ≡ Ok None }
-    ensures no_memory_of_nothing { left_of R.left decoder.old ≡ Some []
-        → result ≢ Err Memory }
+    ensures nothing { IfNothing (seen R.Read decoder.old) (seen R.Read decoder.new) result }
     ensures far { IfErr result (IfTooLong (IsFar (offset_of decoder.new))) }
     ensures reader { R.failed (reader_of decoder.new)
         ≡ R.failed (reader_of decoder.old) + reader_failures R.ends result }

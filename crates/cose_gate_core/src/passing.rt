@@ -2,18 +2,16 @@
 ghost use Rattle.std.specs.Prelude.{◌≡◌, ◌≢◌, ℕ, ◌+◌, List, true, false, pos, Some, None};
 ghost use Rattle.std.specs.Prelude.{MatchBool, MatchOption, IfOk, IfErr, OnOk, OnErr};
 ghost use Rattle.std.specs.Io.KnownBytes.{Appends};
-ghost use Rattle.ciborium.specs.Front.{Reads};
 ghost use Rattle.ciborium_value.specs.Encoding.{Fits, enc};
 ghost use Rattle.ciborium_value.specs.Tree.{Tree, tag};
 ghost use Rattle.ciborium_value.specs.View.{view};
 ghost use Rattle.cose_iana.specs.Tags.{cbor_tags};
-ghost use Rattle.coset_labels.specs.Limits.{nesting_of};
 ghost use Rattle.coset_labels.specs.declared.error.CoseError.TheVariants.{Memory};
 ghost use Rattle.cose_gate_core.specs.Calls.{item_rules, item_sight};
 ghost use Rattle.cose_gate_core.specs.Findings.{Bounds, judged, HasMessage, IsEncryptedTag};
 ghost use Rattle.cose_gate_core.specs.Findings.{Finds};
 ghost use Rattle.cose_gate_core.specs.Misshapen.{IsReadAs};
-ghost use Rattle.cose_gate_core.specs.Passing.{IsRefused, IsTold, WentThrough, ItemFails};
+ghost use Rattle.cose_gate_core.specs.Passing.{IsRefused, IsTold, IsHandled};
 ghost use Rattle.cose_gate_core.specs.Passing.{IsWriteFault, item_failures};
 ghost use Rattle.cose_gate_core.specs.Put.{tagged_put, is_as_received};
 ghost use Rattle.cose_gate_core.specs.Questions.{number_of, tag_of, message_tree};
@@ -132,33 +130,59 @@ fn write_message<M: Message, W: Write>(message: &M, out: &mut W) -> Result<(), I
 /// Asks the judge about a message, and writes it if it has passed. After the last answer it takes
 /// no memory.
 fn pass_message<M: Message, W: Write, J: Judge>(
+    item: ItemTerms<'_>,
     message: &M,
     out: &mut W,
-    aad: &[u8],
     judge: &mut J,
 ) -> Result<Verdict, ItemFault>
     requires received { IsReceivedMessage (M.message message.now) }
     requires put { is_as_received (M.message message.now) ≡ true }
-    ensures ok { (limits : Bounds) (bytes : List ℕ) (t : Tree)
-        → Finds limits bytes t (judged (M.message message.now))
-        → IfOk result (WentThrough (item_rules limits J.Judge judge.old aad.now) bytes t
+    ensures handled { (bytes : List ℕ) (t : Tree)
+        → Finds (limits_of item.entry.terms) bytes t (judged (M.message message.now))
+        → IsHandled (item_rules J.Judge judge.old item.entry) bytes t
         (item_sight W.Write J.Judge out.old judge.old)
-        (item_sight W.Write J.Judge out.new judge.new)) }
-    ensures err { (limits : Bounds) (bytes : List ℕ) (t : Tree)
-        → Finds limits bytes t (judged (M.message message.now))
-        → IfErr result (ItemFails (item_rules limits J.Judge judge.old aad.now) bytes t
-        (item_sight W.Write J.Judge out.old judge.old)
-        (item_sight W.Write J.Judge out.new judge.new)) }
+        (item_sight W.Write J.Judge out.new judge.new) result }
     ensures who { J.who judge.new ≡ J.who judge.old }
     ensures kept { W.handle out.new ≡ W.handle out.old }
     ensures failed { W.failed out.new ≡ W.failed out.old + item_failures result }
 {
-    match message.ask(aad, judge)? {
+    match message.ask(item.aad, judge)? {
         Some(index) => Ok(Verdict::Refused(Refusal::Judged(index))),
         None => {
             write_message(message, out)?;
             Ok(Verdict::Passed)
         }
+    }
+}
+
+/// Asks the judge about a message that was read of the content of its kind's tag, and writes it if
+/// it has passed. `shortest` says whether a strict gate may pass it.
+pub fn pass_read<M: Message, W: Write, J: Judge>(
+    item: ItemTerms<'_>,
+    message: &M,
+    read: Result<(), CoseError>,
+    shortest: bool,
+    out: &mut W,
+    judge: &mut J,
+) -> Result<Verdict, ItemFault>
+    requires { (u : Tree) × IsReadAs (limits_of item.terms) M.kind (M.message message.now) u read }
+    ensures handled { (b : List ℕ) (u : Tree)
+        → IsReadAs (limits_of item.entry.terms) M.kind (M.message message.now) u read
+        → OnOk read (IsTold (limits_of item.entry.terms) b (M.message message.now) shortest)
+        → IsHandled (item_rules J.Judge judge.old item.entry) b (tag (number_of M.kind) u)
+        (item_sight W.Write J.Judge out.old judge.old)
+        (item_sight W.Write J.Judge out.new judge.new) result }
+    ensures who { J.who judge.new ≡ J.who judge.old }
+    ensures kept { W.handle out.new ≡ W.handle out.old }
+    ensures failed { W.failed out.new ≡ W.failed out.old + item_failures result }
+{
+    match read {
+        Ok(()) => {}
+        Err(error) => return Ok(Verdict::Refused(shape_refusal(error)?)),
+    }
+    match bar_of(message, shortest) {
+        Some(refusal) => Ok(Verdict::Refused(refusal)),
+        None => pass_message(item, message, out, judge),
     }
 }
 
@@ -172,74 +196,20 @@ fn pass_as<M: Message, W: Write, J: Judge>(
     out: &mut W,
     judge: &mut J,
 ) -> Result<Verdict, ItemFault>
-    ensures ok { (b : List ℕ)
+    ensures handled { (b : List ℕ)
         → IsTaken item.entry.terms b (tag (number_of M.kind) (view content)) exact
-        → IfOk result (WentThrough
-        (item_rules (limits_of item.entry.terms) J.Judge judge.old item.entry.aad.now)
+        → IsHandled (item_rules J.Judge judge.old item.entry)
         b (tag (number_of M.kind) (view content))
         (item_sight W.Write J.Judge out.old judge.old)
-        (item_sight W.Write J.Judge out.new judge.new)) }
-    ensures err { (b : List ℕ)
-        → IsTaken item.entry.terms b (tag (number_of M.kind) (view content)) exact
-        → IfErr result (ItemFails
-        (item_rules (limits_of item.entry.terms) J.Judge judge.old item.entry.aad.now)
-        b (tag (number_of M.kind) (view content))
-        (item_sight W.Write J.Judge out.old judge.old)
-        (item_sight W.Write J.Judge out.new judge.new)) }
+        (item_sight W.Write J.Judge out.new judge.new) result }
     ensures who { J.who judge.new ≡ J.who judge.old }
     ensures kept { W.handle out.new ≡ W.handle out.old }
     ensures failed { W.failed out.new ≡ W.failed out.old + item_failures result }
 {
     let shortest = is_shortest::<M>(item.terms.strict, exact, &content);
     let mut message = M::empty(alloc);
-    match message.read(alloc, item.terms, content) {
-        Ok(()) => {}
-        Err(error) => return Ok(Verdict::Refused(shape_refusal(error)?)),
-    }
-    match bar_of(&message, shortest) {
-        Some(refusal) => Ok(Verdict::Refused(refusal)),
-        None => pass_message(&message, out, item.aad, judge),
-    }
-}
-
-/// Asks the judge about a message that was read of the content of its kind's tag, and writes it if
-/// it has passed. The gate isn't strict.
-pub fn pass_read<M: Message, W: Write, J: Judge>(
-    item: ItemTerms<'_>,
-    message: &M,
-    read: Result<(), CoseError>,
-    out: &mut W,
-    judge: &mut J,
-) -> Result<Verdict, ItemFault>
-    requires lax { item.terms.strict ≡ false }
-    requires read { (u : Tree)
-        × IsReadAs (limits_of item.terms) M.kind (M.message message.now) u read }
-    ensures ok { (b : List ℕ) (u : Tree)
-        → Reads b (nesting_of item.entry.terms.limits) (tag (number_of M.kind) u)
-        → IsReadAs (limits_of item.entry.terms) M.kind (M.message message.now) u read
-        → IfOk result (WentThrough
-        (item_rules (limits_of item.entry.terms) J.Judge judge.old item.entry.aad.now)
-        b (tag (number_of M.kind) u) (item_sight W.Write J.Judge out.old judge.old)
-        (item_sight W.Write J.Judge out.new judge.new)) }
-    ensures err { (b : List ℕ) (u : Tree)
-        → Reads b (nesting_of item.entry.terms.limits) (tag (number_of M.kind) u)
-        → IsReadAs (limits_of item.entry.terms) M.kind (M.message message.now) u read
-        → IfErr result (ItemFails
-        (item_rules (limits_of item.entry.terms) J.Judge judge.old item.entry.aad.now)
-        b (tag (number_of M.kind) u) (item_sight W.Write J.Judge out.old judge.old)
-        (item_sight W.Write J.Judge out.new judge.new)) }
-    ensures who { J.who judge.new ≡ J.who judge.old }
-    ensures kept { W.handle out.new ≡ W.handle out.old }
-    ensures failed { W.failed out.new ≡ W.failed out.old + item_failures result }
-{
-    match read {
-        Ok(()) => {}
-        Err(error) => return Ok(Verdict::Refused(shape_refusal(error)?)),
-    }
-    match bar_of(message, true) {
-        Some(refusal) => Ok(Verdict::Refused(refusal)),
-        None => pass_message(message, out, item.aad, judge),
-    }
+    let read = message.read(alloc, item.terms, content);
+    pass_read(item, &message, read, shortest, out, judge)
 }
 
 /// Whether this is the tag's number in the registry (RFC 9052, section 2).
@@ -266,16 +236,10 @@ pub fn pass<W: Write, J: Judge>(
     out: &mut W,
     judge: &mut J,
 ) -> Result<Verdict, ItemFault>
-    ensures ok { (bytes : List ℕ) → IsTaken item.entry.terms bytes (view value) exact
-        → IfOk result (WentThrough
-        (item_rules (limits_of item.entry.terms) J.Judge judge.old item.entry.aad.now)
-        bytes (view value) (item_sight W.Write J.Judge out.old judge.old)
-        (item_sight W.Write J.Judge out.new judge.new)) }
-    ensures err { (bytes : List ℕ) → IsTaken item.entry.terms bytes (view value) exact
-        → IfErr result (ItemFails
-        (item_rules (limits_of item.entry.terms) J.Judge judge.old item.entry.aad.now)
-        bytes (view value) (item_sight W.Write J.Judge out.old judge.old)
-        (item_sight W.Write J.Judge out.new judge.new)) }
+    ensures handled { (bytes : List ℕ) → IsTaken item.entry.terms bytes (view value) exact
+        → IsHandled (item_rules J.Judge judge.old item.entry) bytes (view value)
+        (item_sight W.Write J.Judge out.old judge.old)
+        (item_sight W.Write J.Judge out.new judge.new) result }
     ensures who { J.who judge.new ≡ J.who judge.old }
     ensures kept { W.handle out.new ≡ W.handle out.old }
     ensures failed { W.failed out.new ≡ W.failed out.old + item_failures result }

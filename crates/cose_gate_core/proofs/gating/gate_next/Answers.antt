@@ -10,7 +10,7 @@ use Rattle.cose_gate_core.proofs.gating.gate_next.Goals as goal
 pub returns-in_err-verdict-clause-ran : goal.returns-in_err-verdict-clause-ran
 returns-in_err-verdict-clause-ran g c =
     rw (err_is _ _ c.from_residual.ensures.1) (λ live first done come.
-    answer_next g.R.Read.ends _ _ _ _ live _ _ done come _ c.in_err-verdict.ensures.ran refl (λ none same. c.in_err-verdict.ensures.no_memory_of_nothing none (ap Err same)))
+    answer_next g.R.Read.ends _ _ _ _ live _ _ done come _ c.in_err-verdict.ensures.ran refl (λ none same. (c.in_err-verdict.ensures.nothing none).1 (ap Err same)))
 
 pub returns-in_default-clause-ran : goal.returns-in_default-clause-ran
 returns-in_default-clause-ran g c = λ live first done come.
@@ -31,11 +31,7 @@ returns-in_err-note-clause-ran g c =
     answer_unnoted g.R.Read.ends _ _ _ _ live _ _ done come _ (rw c.in-Some.is at c.in_ok-verdict.ensures.ran) c.in_err-note.ensures.err)
 
 pub returns-in_err-note-clause-nothing : goal.returns-in_err-note-clause-nothing
-returns-in_err-note-clause-nothing g c = λ none same small.
-    absurd (nothing_read _ _ _ _ _ _ none (taken_of g.R.Read.ends _ _ _ _ _ _ _ _ (rw c.in-Some.is at c.in_ok-verdict.ensures.ran)))
-
-pub returns-in_err-note-clause-no_memory_of_nothing : goal.returns-in_err-note-clause-no_memory_of_nothing
-returns-in_err-note-clause-no_memory_of_nothing g c = λ none same.
+returns-in_err-note-clause-nothing g c = λ none.
     absurd (nothing_read _ _ _ _ _ _ none (taken_of g.R.Read.ends _ _ _ _ _ _ _ _ (rw c.in-Some.is at c.in_ok-verdict.ensures.ran)))
 
 pub returns-clause-ran : goal.returns-clause-ran

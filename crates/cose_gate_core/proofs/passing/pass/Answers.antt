@@ -6,16 +6,16 @@ use Rattle.cose_gate_core.proofs.Items.{taken_barred}
 use Rattle.cose_gate_core.proofs.TagNumbers.{no_message_tag}
 use Rattle.cose_gate_core.proofs.passing.pass.Goals as goal
 
-pub returns-in_default-clause-ok : goal.returns-in_default-clause-ok
-returns-in_default-clause-ok g c = λ b h.
+pub returns-in_default-clause-handled : goal.returns-in_default-clause-handled
+returns-in_default-clause-handled g c = λ b h.
     taken_barred _ b _ _ _ NotTagged (λ n u is. (let no : false ≡ true = sym c.in_default.ensures.1 ∙ ap is_tag is in cc))
 
-pub returns-in_default-number-clause-ok : goal.returns-in_default-number-clause-ok
-returns-in_default-number-clause-ok g c = λ b h.
+pub returns-in_default-number-clause-handled : goal.returns-in_default-number-clause-handled
+returns-in_default-number-clause-handled g c = λ b h.
     taken_barred _ b _ _ _ Encrypted (c.in-Ok.number, view c.in-Ok.content.value, c.in-Ok.ensures, c.if-is_encrypted.ensures)
 
-pub returns-clause-ok : goal.returns-clause-ok
-returns-clause-ok g c = λ b h.
+pub returns-clause-handled : goal.returns-clause-handled
+returns-clause-handled g c = λ b h.
     let n = c.in-Ok.number in
     let a : n ≢ 18 = search rules in
     let d : n ≢ 17 = search rules in
