@@ -93,11 +93,6 @@ module _ {T : Type 0} (rules : ItemRules T) where
     writes = subst (λ (x : List ℕ). Appends w w' x) (sym (written_yes m said)) writes;
   }
 
-  -- a beginning was asked, and nothing written
-  pub half_asked : (b : List ℕ) (t : Tree) (told told' : T) (w : Option (List ℕ)) (m : MessageFields) → Finds rules.limits b t (judged m)
-      → ToldPart rules.decided told told' (asked rules.allows (questions m rules.aad)) → ItemFails rules b t (seen told w) (seen told' w) fault.Memory
-  half_asked b t told told' w m is part = (refl, inr (record { message = m; is = is; part = part }))
-
   -- writing failed
   pub half_written : (b : List ℕ) (t : Tree) (told told' : T) (w w' : Option (List ℕ)) (m : MessageFields) (f : ItemFault) → Finds rules.limits b t (judged m) → None ≡ first_no rules.allows (questions m rules.aad)
       → told' ≡ folded_over rules.decided told (asked rules.allows (questions m rules.aad)) → IsWriteFault w w' (message_text m) f → ItemFails rules b t (seen told w) (seen told' w') f

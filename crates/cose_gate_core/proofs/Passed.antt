@@ -1,14 +1,14 @@
 -- What became of the next item, from its steps.
-use Rattle.std.proofs.Common.{◌≡◌, ◌≢◌, ◌⊎◌, inl, inr, ℕ, ◌+◌, ◌-◌, ◌<◌, ◌≤◌, List, [], ◌∷◌, ◌++◌, length, Option, None, Some, Bool, cond, not, refl, sym, ap, subst, ◌∙◌, arith, length-append}
-use Rattle.std.specs.Prelude.{Result, Ok, Err}
+use Rattle.std.proofs.Common.{◌≡◌, ◌≢◌, ◌⊎◌, inl, inr, ℕ, ◌+◌, ◌-◌, ◌<◌, ◌≤◌, List, [], ◌∷◌, ◌++◌, length, Option, None, Some, Bool, cond, not, refl, sym, ap, subst, arith, length-append}
+use Rattle.std.specs.Prelude.{Ok, Err}
 use Rattle.ciborium_ll.specs.Reading.{Moves}
 use Rattle.ciborium_ll.specs.Seen.{Seen, Takes}
-use Rattle.ciborium_ll.specs.declared.hdr.Header.TheVariants.{Tag, Array}
+use Rattle.ciborium_ll.specs.declared.hdr.Header.TheVariants.{Tag}
 use Rattle.ciborium_value.specs.Tree.{Tree, array, tag, Trees}
 use Rattle.ciborium_value.specs.View.{view}
 use Rattle.ciborium.specs.Damage.{Damage}
 use Rattle.ciborium.specs.Front.{Reads, HoldsOne}
-use Rattle.ciborium.specs.Fronts.{IsFront, TakesItem, TakesFour}
+use Rattle.ciborium.specs.Fronts.{IsFront, TakesFour}
 use Rattle.ciborium.specs.Reading.{IfKnown, IfEnd, IsFar, FailsAt, NamesFault, TakesSome, SomeTaken, IfMemory}
 use Rattle.ciborium.specs.declared.de.Error.{Error}
 use Rattle.ciborium.specs.declared.de.Error.TheVariants as de
@@ -16,7 +16,6 @@ use Rattle.ciborium.specs.declared.frames.Front.{Front}
 use Rattle.ciborium.specs.declared.frames.Front.TheVariants as front
 use Rattle.ciborium.proofs.FrontLemmas.{four_taken}
 use Rattle.ciborium.proofs.StringLemmas.{title_some}
-use Rattle.cose_gate_core.specs.Findings.{Bounds}
 use Rattle.cose_gate_core.specs.Next.{Reached, RanSteps, IsReadFault, Passes, PassesNext}
 use Rattle.cose_gate_core.specs.Outcome.{Rules, GateState, IsFaultOf, IfTooLong}
 use Rattle.cose_gate_core.specs.Passing.{ItemRules, ItemSight, WentThrough, ItemFails, fault_by, stopped_by}

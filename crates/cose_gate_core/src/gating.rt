@@ -1,5 +1,5 @@
 //! The gate.
-ghost use Rattle.std.specs.Prelude.{◌≡◌, ◌≢◌, ◌+◌, ◌<◌, ◌^◌, [], Some, None, Ok, Err};
+ghost use Rattle.std.specs.Prelude.{◌≡◌, ◌+◌, ◌<◌, ◌^◌, [], Some, None, Ok, Err};
 ghost use Rattle.std.specs.Prelude.{◌≤◌, ◌⊎◌, IfOk, IfErr, IfSome, OnOk, true, false, not};
 ghost use Rattle.std.specs.Prelude.{if◌then◌else◌, length, List, ℕ};
 ghost use Rattle.std.specs.Io.{StartsWith};
@@ -32,7 +32,7 @@ use crate::passing::{ItemFault, pass, pass_read};
 use crate::report::{Entry, Report, Verdict};
 use crate::terms::Terms;
 use cbor_walk::begins_item;
-use ciborium::{Front, Spare, Value, de, read_front};
+use ciborium::{Front, Spare, de, read_front};
 use ciborium_ll::{Decoder, Read, Write};
 use coset_labels::TaggedCborSerializable;
 use coset_maced::CoseMac0;
