@@ -85,6 +85,12 @@ def abi():
 
     fields_of("StreamAnswer", "crates/cose_gate_c/src/streaming.rt", "cose_gate_stream_answer")
     fields_of("StreamQuestion", "crates/cose_gate_c/src/stream_asking.rt", "cose_gate_stream_question")
+    lent = {"&'a [u8]": "cose_gate_text {}", "&'a [i64]": "const int64_t *{0}; size_t {0}_length",
+            "&'a [Text<'a>]": "const cose_gate_text *{0}; size_t {0}_length", "i64": "int64_t {}", "bool": "bool {}"}
+    choice = re.search(r"pub struct TokenChoice<'a> \{(.*?)\n\}", text("crates/cose_gate_c/src/tokens.rt"), re.S)[1]
+    said = re.search(r"typedef struct cose_gate_token_terms \{(.*?)\n\}", text(header), re.S)[1]
+    same("the fields of cose_gate_token_terms are", [lent[of].format(name) for name, of in re.findall(r"^    pub (\w+): (.*),$", choice, re.M)],
+         header, re.findall(r"^  (.*?);$", re.sub(r"\s*/\*.*?\*/", "", said).replace(";\n  size_t", "; size_t"), re.M))
     names = fields_of("Answer", "crates/cose_gate_records/src/answer.rt", "cose_gate_answer")
     rust = "examples/rust/src/lib.rs"
     fields = re.search(r"^struct Answer \{(.*?)\n\}", text(rust), re.M | re.S)[1]

@@ -138,9 +138,14 @@ pub struct Signature<'a> {
     pub signature: &'a [u8],
 }
 
-/// The parts of a key that fits, empty if it has none.
+/// The parts of a key that fits: numbers of IANA's registries for COSE, 0 for none, and byte strings, empty if it has none.
 #[derive(Debug, Clone, Copy)]
 pub struct Key<'a> {
+    /// 1 is OKP, 2 EC2, 3 RSA, 4 symmetric.
+    pub kty: i64,
+    pub algorithm: i64,
+    /// 1 is P-256, 6 Ed25519.
+    pub curve: i64,
     /// n of an RSA key, k of a symmetric one.
     pub n_or_k: &'a [u8],
     /// x of a key on a curve, e of an RSA key.
@@ -161,6 +166,13 @@ fn text<'a>(rest: &mut &'a [u8]) -> &'a [u8] {
     let (front, behind) = rest.split_at(length);
     *rest = behind;
     front
+}
+
+/// The key whose parts these are.
+fn key(mut rest: &[u8]) -> Key<'_> {
+    let mut numbers = || number(&mut rest) as i64;
+    let (kty, algorithm, curve) = (numbers(), numbers(), numbers());
+    Key { kty, algorithm, curve, n_or_k: text(&mut rest), x_or_e: text(&mut rest), y: text(&mut rest) }
 }
 
 /// The digests of the good ones among the questions that blocks show. `docs/cose-ask.1` says what a block is.
@@ -199,7 +211,7 @@ pub fn pass(keys: &[u8], aad: &[u8], input: &[u8], strict: bool, is_good: impl F
     let mut rest = parts.as_slice();
     let mut listed = Vec::new();
     while !rest.is_empty() {
-        listed.push(Key { n_or_k: text(&mut rest), x_or_e: text(&mut rest), y: text(&mut rest) });
+        listed.push(key(text(&mut rest)));
     }
     let digests = accepted(&blocks, &listed, is_good);
     call(cose_gate_pass_digests, &digests, aad, input, strict)
@@ -211,7 +223,7 @@ mod tests {
     #[test]
     fn passes_what_is_called_good() {
         let read = |name| std::fs::read(format!("{}/../{name}.cbor", env!("CARGO_MANIFEST_DIR"))).unwrap();
-        let of_32 = |one: &super::Signature, key: &super::Key| one.algorithm == 5 && one.signature.len() == 32 && key.n_or_k.len() == 32;
+        let of_32 = |one: &super::Signature, key: &super::Key| one.algorithm == 5 && (key.kty, key.algorithm, key.curve) == (4, 5, 0) && key.n_or_k.len() == 32;
         let checked = super::pass(&read("keys"), &[1], &read("mixed"), false, of_32).unwrap();
         assert!(checked.some_refused && checked.lines.ends_with(b"passed 4, refused 5\n"));
     }
