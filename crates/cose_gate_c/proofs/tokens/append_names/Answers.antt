@@ -1,15 +1,20 @@
-use Rattle.std.proofs.Common.{◌≡◌, ◌++◌, List, map, rules, subst}
-use Rattle.std.proofs.lemmas.List.{take_all}
+use Rattle.std.proofs.Common.{◌≡◌, ◌++◌, map, subst, arith}
+use Rattle.std.proofs.lemmas.Grind.{common_steps}
 use Rattle.std.proofs.lemmas.List.Elements.{All-more}
+use Rattle.std.proofs.lemmas.List.{take_all}
 use Rattle.std.specs.List.{All}
 use Rattle.std.specs.Prelude.{IsUtf8}
 use Rattle.coset_labels.specs.View.{label_view}
 use Rattle.cose_gate_c.specs.Tokens.{name_of}
 use Rattle.cose_gate_c.proofs.tokens.append_names.Goals as goal
 
-pub loop-name-preserved-clause-texts : goal.loop-name-preserved-clause-texts
-loop-name-preserved-clause-texts c = λ k d below. All-more (λ n. IsUtf8 n.bytes.now) c.args.names.now c.loop-name.name-index _ c.loop-name-test.true
-    c.loop-name.invariant.texts c.in-Some.ensures.0 k d below
+pub loop-name-preserved : goal.loop-name-preserved
+loop-name-preserved c =
+    let e = rw c.in-Some.is at c.in_ok-label.ensures in
+    record {
+      texts = All-more (λ n. IsUtf8 n.bytes.now) c.args.names.now c.loop-name.name-index _ c.loop-name-test.true c.loop-name.invariant.texts e.0;
+      appended = grind (arith, common_steps, e.1);
+    }
 
 pub returns : goal.returns
 returns c =
