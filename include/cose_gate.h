@@ -132,11 +132,12 @@ cose_gate_answer cose_gate_pass(const uint8_t *accepted, size_t accepted_length,
  * don't go by the claims; cose_gate_pass_digests passes no item that has no digest.
  *
  * cose_gate_key_parts writes the parts of all keys of a set: cose_gate_key_at shows those of the key at a place. Of each key it writes the
- * length of what follows, in eight bytes, the lowest first; the numbers of its type (label 1), its algorithm (3) and its curve (-1, if that is
- * an integer) in eight bytes each, in two's complement, 0 for none and for a name; and three byte strings, each after its length in eight bytes:
- * those under -1 (n of RSA, k), -2 (e, x) and -3 (y). A later release may add bytes after these. No private part of a key pair is shown (d,
- * under -4, or -3 of RSA), but k of a symmetric key is, which is secret: clear the buffer after use. COSE_GATE_ALL_PASSED: they are
- * written. COSE_GATE_KEYS: the bytes are not a key set. COSE_GATE_STOPPED: memory ran out. COSE_GATE_NO_ROOM: as above.
+ * length of what follows, in eight bytes, the lowest first; the numbers of its type, its algorithm and its curve in eight bytes each, in two's
+ * complement, 0 for none and for a name; and three byte strings, each after its length in eight bytes, empty if there is none: n of an RSA key
+ * or k of a symmetric one; x of an OKP or EC2 key or e of an RSA key; and y of an EC2 key. Keys of other types fit no algorithm here, and have
+ * none. A later release may add bytes after these. No private part of a key pair is shown, but k is, which is secret: clear the buffer after
+ * use. COSE_GATE_ALL_PASSED: they are written. COSE_GATE_KEYS: the bytes are not a key set. COSE_GATE_STOPPED: memory ran out.
+ * COSE_GATE_NO_ROOM: as above.
  *
  * cose_gate_pass_digests takes the digests of the questions whose signatures are good, COSE_GATE_DIGEST bytes each, one after another, in any
  * order, and writes the messages all of whose questions are among them. `aad`, the limits and `strict` are those of the call before. That two

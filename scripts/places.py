@@ -73,7 +73,7 @@ def limits():
 def abi():
     """The header declares what a call returns, and its parameters, as the library exports them, in the same order."""
     header = "include/cose_gate.h"
-    c_types = {"u32": "uint32_t", "usize": "size_t", "bool": "bool"}
+    c_types = {"u32": "uint32_t", "usize": "size_t", "bool": "bool", "&TokenChoice<'_>": "const cose_gate_token_terms *"}
 
     def fields_of(exported, file, declared):
         """The names of the fields of a struct, which the header declares with the same types."""
@@ -103,14 +103,14 @@ def abi():
         same("the calls are", [name for name, _ in calls], header, found(header, rf"^{declared} (\w+)\("))
         for name, parameters in calls:
             wanted = []
-            for one, of in re.findall(r"(\w+): (&mut \[u8\]|&\[u8\]|usize|bool)(?:,|$)", parameters):
+            for one, of in re.findall(r"(\w+): (&mut \[u8\]|&\[u8\]|&TokenChoice<'_>|usize|bool)(?:,|$)", parameters):
                 if of.endswith("[u8]"):
                     wanted += [("uint8_t *" if "mut" in of else "const uint8_t *", one), ("size_t", f"{one}_length")]
                 else:
                     wanted.append((c_types[of], one))
             call = found(header, rf"^{declared} {name}\((.*?)\);")[0]
             same(f"the arguments of {name} are", wanted, header,
-                 [(of.strip(), one) for of, one in re.findall(r"((?:const )?uint8_t \*|size_t |bool )(\w+)", call)])
+                 [(of.strip(), one) for of, one in re.findall(r"((?:const )?uint8_t \*|const cose_gate_token_terms \*|size_t |bool )(\w+)", call)])
 
 
 def versions():

@@ -63,6 +63,14 @@ func ExampleAskTokens() {
 	// the limits are out of range, or a string isn't UTF-8
 }
 
+func ExamplePassTokens() {
+	audience := "door"
+	terms := cosegate.Terms{Now: 1443944944, Leeway: 60, Audience: &audience, Needed: []int64{4}}
+	checked, err := cosegate.PassTokens(read("keys.cbor"), terms, []byte{1}, read("mixed.cbor"), false, isGood)
+	fmt.Println(len(checked.Passed), checked.SomeRefused, err)
+	// Output: 0 true <nil>
+}
+
 func ExampleStreamCheck() {
 	payload, err := cosegate.StreamCheck(read("keys.cbor"), []byte{1}, read("one.cbor"))
 	fmt.Println(string(payload), err)

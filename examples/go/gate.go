@@ -1,6 +1,7 @@
 // Package cosegate lets through the COSE messages of a CBOR sequence that are good, by the library for C (include/cose_gate.h), which pkg-config
 // finds where `scripts/install.sh --library` put it. Check checks MACs. PassSigned is for signatures: the library goes by the rules for headers
-// and keys, and the caller says whether a signature is good under a key. Nobody may write to a slice during a call.
+// and keys, and the caller says whether a signature is good under a key. PassTokens is that for tokens. Nobody may write to a slice during a
+// call.
 package cosegate
 
 // #cgo pkg-config: cose_gate
@@ -194,8 +195,20 @@ func PassDigests(digests [][]byte, aad, input []byte, strict bool) (Checked, err
 // that fit.
 func PassSigned(keys, aad, input []byte, strict bool, good func(Signature, Key) bool) (Checked, error) {
 	items, err := AskRuled(keys, aad, input, strict)
-	if err != nil && err != ErrStopped {
-		return Checked{}, err
+	return passGood(items, err, keys, aad, input, strict, good)
+}
+
+// PassTokens does the same of tokens whose claims pass.
+func PassTokens(keys []byte, terms Terms, aad, input []byte, strict bool, good func(Signature, Key) bool) (Checked, error) {
+	items, err := AskTokens(keys, terms, aad, input, strict)
+	return passGood(items, err, keys, aad, input, strict, good)
+}
+
+// passGood passes the messages all of whose questions are among those of the items, and good. With ErrStopped the items are those that come
+// before; if the input ends there, the last call says so too.
+func passGood(items []Item, stopped error, keys, aad, input []byte, strict bool, good func(Signature, Key) bool) (Checked, error) {
+	if stopped != nil && stopped != ErrStopped {
+		return Checked{}, stopped
 	}
 	parts, err := KeyParts(keys)
 	if err != nil {
@@ -212,7 +225,11 @@ func PassSigned(keys, aad, input []byte, strict bool, good func(Signature, Key) 
 			}
 		}
 	}
-	return PassDigests(digests, aad, input, strict)
+	checked, err := PassDigests(digests, aad, input, strict)
+	if err == nil {
+		err = stopped // memory ran out for the blocks
+	}
+	return checked, err
 }
 
 // KeyParts gives the parts of each key of a set.

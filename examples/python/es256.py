@@ -1,6 +1,6 @@
-"""Signatures that the caller verifies: COSE_Sign1 with ES256 (RFC 9053, section 2.1), by `ask_ruled` and `pass_digests` of cose_gate, and
-of one message by `verify`, also as a token. It makes keys and messages with Debian's python3-cbor2 and python3-cryptography, spoils some, and prints what
-passes: es256.py LIBRARY. Build and run: `bash scripts/c-library.sh python`."""
+"""Signatures that the caller verifies: COSE_Sign1 with ES256 (RFC 9053, section 2.1), by `pass_signed` of cose_gate and by its steps, and of
+one message by `verify`, also as a token. It makes keys and messages with Debian's python3-cbor2 and python3-cryptography, spoils some, and
+prints what passes: es256.py LIBRARY. Build and run: `bash scripts/c-library.sh python`."""
 
 import os
 import sys
@@ -11,7 +11,7 @@ from cryptography.hazmat.primitives import hashes
 from cryptography.hazmat.primitives.asymmetric import ec, utils
 
 import cose_gate
-from cose_gate import Gate, Refused, Terms
+from cose_gate import Gate, LimitsError, Refused, StoppedError, Terms
 
 ALG, CRIT, KID, ES256, SIGN1 = 1, 2, 4, -7, 18
 KTY, EC2, CRV, P256, X, Y = 1, 2, -1, 1, -2, -3
@@ -53,7 +53,8 @@ def is_good(one, key):
 
 
 def main(words):
-    gate = Gate(words[1])
+    os.environ["COSE_GATE_LIBRARY"] = words[1]
+    gate = Gate()
     signer, other = ec.generate_private_key(ec.SECP256R1()), ec.generate_private_key(ec.SECP256R1())
     keys = key_set(k1=signer.public_key(), k2=other.public_key())
     aad = b"today"
@@ -70,6 +71,14 @@ def main(words):
     assert [item.number for item in items] == [1, 2, 3, 4] and len(asked) == 3 and len(accepted) == 1, (items, accepted)
     assert items[3].why == "a critical label is not understood", items[3]
     assert checked.passed == good and checked.some_refused, checked
+    assert gate.pass_signed(keys, aad, input, is_good) == checked
+    assert gate.pass_signed(keys, aad, input, lambda one, key: False).passed == b""
+    try:
+        gate.pass_signed(keys, aad, good + good[:-1], is_good)
+    except StoppedError as fault:
+        assert fault.passed == good, fault
+    else:
+        raise AssertionError("not stopped")
     # A yes to one message is none to the same bytes under another key id, which no signature covers.
     assert gate.pass_digests(accepted, aad, renamed).passed == b""
     assert gate.pass_digests([], aad, input).passed == b""
@@ -84,8 +93,11 @@ def main(words):
         else:
             raise AssertionError("taken: " + why)
 
-    # The same by the package alone, and of a token that ends at 2000.
-    os.environ["COSE_GATE_LIBRARY"] = words[1]
+    by_package(gate, signer, keys, aad, image, spoiled)
+
+
+def by_package(gate, signer, keys, aad, image, spoiled):
+    """The same by the package alone, and of a token that ends at 2000."""
     for lent in (image, bytearray(image), memoryview(image)):
         assert cose_gate.verify(lent, keys, aad) == bytes(1 << 20)
     claims = cbor2.dumps({3: "door", 4: 2000})
@@ -100,6 +112,7 @@ def main(words):
         "the payload is not one item of CBOR": (sign(signer, b"k1", aad, b"open the door"), Terms(0)),
         "Judged": (spoiled, None),
         "Decode": (b"", None),
+        "ExtraneousData": (token + token, Terms(1999, any_audience=True)),
     }
     for why, (message, terms) in faults.items():
         try:
@@ -108,6 +121,16 @@ def main(words):
             assert str(fault) == why, (fault, why)
         else:
             raise AssertionError("taken: " + why)
+
+    # A token passes at its time alone, also among others. Terms that are none are no terms.
+    assert gate.pass_signed(keys, aad, token + image, is_good, token=Terms(1999, audience="door")).passed == token
+    assert gate.pass_signed(keys, aad, token + image, is_good, token=Terms(2000, audience="door")).passed == b""
+    for terms in (Terms(1 << 63), Terms(0, needed=(1 << 64,)), Terms(0, issuer="\ud800"), Terms(0, needed=("\udcc3\udca9",))):
+        try:
+            gate.ask_ruled(keys, aad, token, token=terms)
+        except LimitsError:
+            continue
+        raise AssertionError(terms)
 
 
 if __name__ == "__main__":

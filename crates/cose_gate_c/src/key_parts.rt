@@ -5,6 +5,7 @@ ghost use Rattle.std.specs.List.{find};
 ghost use Rattle.ciborium_value.specs.View.{view};
 ghost use Rattle.cose_iana.specs.Algorithms.{algorithm_number};
 ghost use Rattle.cose_iana.specs.Keys.{key_types};
+ghost use Rattle.coset_headers.specs.View.{entry_view};
 ghost use Rattle.coset_keys.specs.View.{key_view};
 ghost use Rattle.coset_labels.specs.Fields.{number};
 ghost use Rattle.coset_labels.specs.Labels.{label_of};
@@ -76,24 +77,65 @@ fn curve_entry(params: &[(Label, Value)]) -> Option<&(Label, Value)>
     params.iter().find(|entry| is_curve(&entry.0))
 }
 
-/// The number of the curve of a key; 0 if there is none.
-fn curve_number(key: &CoseKey) -> i64
-    ensures { result ≡ spec.curve_number (key_view key.now).params }
+/// The number of a curve; 0 if there is none.
+fn curve_in(params: &[(Label, Value)]) -> i64
+    ensures { result ≡ spec.curve_in (map entry_view params.now) }
 {
-    match curve_entry(&key.params) {
+    match curve_entry(params) {
         Some(entry) => number_of(&entry.1),
         None => 0,
     }
 }
 
-/// y of a key on a curve: what is under -3, which of an RSA key is its private d.
+/// Whether a key is on a curve: OKP or EC2.
+fn is_on_curve(kty: &KeyType) -> bool
+    ensures { result ≡ spec.is_on_curve (registered_view key_types.number kty.now) }
+{
+    is_type(kty, 1) || is_type(kty, 2)
+}
+
+/// The number of the curve of a key; 0 if it is on none.
+fn curve_number(key: &CoseKey) -> i64
+    ensures { result ≡ spec.curve_number (key_view key.now) }
+{
+    if is_on_curve(&key.kty) {
+        curve_in(&key.params)
+    } else {
+        0
+    }
+}
+
+/// n of an RSA key, or k of a symmetric one.
+fn n_or_k(key: &CoseKey) -> Option<&[u8]>
+    ensures { option_copied result ≡ spec.n_or_k (key_view key.now) }
+{
+    if is_type(&key.kty, 3) || is_type(&key.kty, 4) {
+        part_of(key, -1)
+    } else {
+        None
+    }
+}
+
+/// x of a key on a curve, or e of an RSA key.
+fn x_or_e(key: &CoseKey) -> Option<&[u8]>
+    ensures { option_copied result ≡ spec.x_or_e (key_view key.now) }
+{
+    if is_on_curve(&key.kty) || is_type(&key.kty, 3) {
+        part_of(key, -2)
+    } else {
+        None
+    }
+}
+
+/// y of an EC2 key.
 fn y_of(key: &CoseKey) -> Option<&[u8]>
     ensures { option_copied result ≡ spec.y_of (key_view key.now) }
 {
-    if is_type(&key.kty, 3) {
-        return None;
+    if is_type(&key.kty, 2) {
+        part_of(key, -3)
+    } else {
+        None
     }
-    part_of(key, -3)
 }
 
 /// Appends a number in eight bytes, in two's complement, the lowest first.
@@ -130,8 +172,8 @@ fn append_strings(text: &mut Vec<u8>, key: &CoseKey) -> Result<(), AllocError>
     ensures { OnOk result (text.new.items
         ≡ text.old.items ++ spec.strings_text (key_view key.now)) }
 {
-    append_part(text, part_of(key, -1))?;
-    append_part(text, part_of(key, -2))?;
+    append_part(text, n_or_k(key))?;
+    append_part(text, x_or_e(key))?;
     append_part(text, y_of(key))
 }
 
