@@ -10,8 +10,8 @@ use Rattle.coset_labels.specs.declared.label.Label.{Label}
 use Rattle.coset_headers.specs.View.{entry_view}
 use Rattle.cose_rules.specs.Labels.{same_label}
 use Rattle.cose_rules.proofs.Entries.{value_by}
-use Rattle.cose_gate_c.specs.KeyParts.{curve, curve_number, number_in}
+use Rattle.cose_gate_c.specs.KeyParts.{curve, curve_in, number_in}
 
-pub curve_by : (es fs : List (Label × Value)) (r : Option (Label × Value)) (n : ℤ) → r ≡ find (λ e. same_label (label_view e.0) curve) es → es ≡ fs
-    → n ≡ number_in (option_and_then label_of (option_map (λ e. view e.1) r)) → n ≡ curve_number (map entry_view fs)
-curve_by es fs r n e same f = f ∙ ap (λ z. number_in (option_and_then label_of z)) (value_by es curve r e) ∙ ap (λ z. curve_number (map entry_view z)) same
+pub curve_by : (es : List (Label × Value)) (r : Option (Label × Value)) (n : ℤ) → r ≡ find (λ e. same_label (label_view e.0) curve) es
+    → n ≡ number_in (option_and_then label_of (option_map (λ e. view e.1) r)) → n ≡ curve_in (map entry_view es)
+curve_by es r n e f = f ∙ ap (λ z. number_in (option_and_then label_of z)) (value_by es curve r e)
