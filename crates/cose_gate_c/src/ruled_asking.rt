@@ -10,11 +10,11 @@ ghost use Rattle.cose_ruled.specs.Running.{reading_into};
 ghost use Rattle.cose_gate_c.specs.RuledAsking.{AsksRuled, ToldRuled, ToldUnder, WroteBlocks};
 
 use ciborium_ll::{Read, Write};
+use cose_gate_core::Terms;
 use cose_gate_program::{NotBegun, Notice, Teller, begin};
 use cose_gate_records::{
     Answer, Choice, Ended, Growing, Lines, RunTerms, no_limits, place, place_none, stop_for_memory,
 };
-use cose_gate_core::Terms;
 use cose_ruled::{Rules, TokenTerms, ask_ruled};
 use std::alloc::Global;
 
