@@ -1,5 +1,5 @@
 -- Which tokens pass by what C says of them, and what asking about tokens returns.
-use Rattle.std.specs.Prelude.{◌≡◌, ℕ, List, [], ◌++◌, map, Option, Some, None, Bool, if◌then◌else◌, IsUtf8}
+use Rattle.std.specs.Prelude.{◌≡◌, ℕ, List, ◌++◌, map, Option, Some, None, Bool, if◌then◌else◌, IsUtf8}
 use Rattle.std.specs.List.{All}
 use Rattle.coset_labels.specs.Fields.{LabelFields, number, words}
 use Rattle.cose_rules.specs.Claims.{Receiver, nobody, somebody, anyone, TermsFields}
