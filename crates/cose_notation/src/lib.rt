@@ -10,7 +10,6 @@ mod look;
 mod message;
 mod names;
 mod parts;
-mod role;
 mod search;
 mod shows;
 mod signs;

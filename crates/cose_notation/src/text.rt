@@ -4,11 +4,10 @@ use crate::look::Look;
 use crate::message::OuterTags;
 use crate::names::key_operation;
 use crate::parts::{integer, is_bytes, items, joined};
-use crate::role::CWT;
 use crate::shows::{Done, Entry, Group, Labels, PartIs, Seen, Shows};
 use crate::time::claim_time;
 use cbor_diag::{
-    CUT, NotWritten, Page, Style, View, front_text, write_hex, write_text, write_view,
+    CUT, CWT, NotWritten, Page, Style, View, front_text, write_hex, write_text, write_view,
 };
 use std::alloc::Global;
 use std::fmt;
