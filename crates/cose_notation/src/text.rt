@@ -50,6 +50,43 @@ pub fn write_shown<P: fmt::Write>(
     }
 }
 
+/// Writes the id of a key in hex, and as a text if it is one. No more than 64 bytes are shown,
+/// unless it is to be shown whole, and none if an item in it is hidden.
+pub fn write_shown_id<P: fmt::Write>(id: View<'_>, whole: bool, page: &mut Page<'_, P>) {
+    if id.holds_hidden() {
+        page.write_str("...");
+        return;
+    }
+    page.write_str("h'");
+    if !whole && id.len() > CUT {
+        write_hex(id.front(CUT).bytes(), page);
+        page.write_str("'...");
+        return;
+    }
+    write_hex(id.bytes(), page);
+    page.write_str("'");
+    write_in_brackets(id, whole, page);
+}
+
+/// Writes bytes as a text in brackets, if they are one.
+fn write_in_brackets<P: fmt::Write>(bytes: View<'_>, whole: bool, page: &mut Page<'_, P>) {
+    if let Some(text) = plain_text(bytes) {
+        page.write_str(" (");
+        write_string(text, whole, page);
+        page.write_str(")");
+    }
+}
+
+/// Writes a text, and no more than 64 bytes of it unless it is to be shown whole.
+fn write_string<P: fmt::Write>(text: &str, whole: bool, page: &mut Page<'_, P>) {
+    if whole || text.len() <= CUT {
+        write_text(text, false, page);
+        return;
+    }
+    write_text(front_text(text.as_bytes()), false, page);
+    page.write_str("... (--full shows all)");
+}
+
 impl<'a, P: fmt::Write> Text<'a, P> {
     /// No line yet.
     pub fn new(alloc: Global, look: Look, out: &'a mut P) -> Text<'a, P> {
@@ -123,38 +160,6 @@ impl<'a, P: fmt::Write> Text<'a, P> {
             mark = " and ";
         }
         self.page.write_str("\n");
-    }
-
-    /// The id of a key in hex, and as a text if it is one.
-    pub fn id(&mut self, id: View<'_>) {
-        if id.holds_hidden() {
-            self.page.write_str("...");
-            return;
-        }
-        let is_whole = self.look.full || id.len() <= CUT;
-        let shown = if is_whole { id } else { id.front(CUT) };
-        self.page.write_str("h'");
-        write_hex(shown.bytes(), &mut self.page);
-        self.page.write_str(if is_whole { "'" } else { "'..." });
-        self.in_brackets(id);
-    }
-
-    /// Bytes as a text in brackets, if they are one.
-    fn in_brackets(&mut self, bytes: View<'_>) {
-        if let Some(text) = plain_text(bytes) {
-            self.page.write_str(" (");
-            self.text(text);
-            self.page.write_str(")");
-        }
-    }
-
-    fn text(&mut self, text: &str) {
-        if self.look.full || text.len() <= CUT {
-            write_text(text, false, &mut self.page);
-            return;
-        }
-        write_text(front_text(text.as_bytes()), false, &mut self.page);
-        self.page.write_str("... (--full shows all)");
     }
 
     /// The notation of an item, which may go on over several lines.
@@ -238,7 +243,7 @@ impl<'a, P: fmt::Write> Text<'a, P> {
         }
         if entry.is_id() && is_bytes(value.bytes()) {
             let id = joined(self.alloc, value)?;
-            self.in_brackets(id.view());
+            write_in_brackets(id.view(), self.look.full, &mut self.page);
         }
         Ok(())
     }
@@ -270,7 +275,7 @@ impl<'a, P: fmt::Write> Text<'a, P> {
             self.page.write_str(", not shown (--secrets shows them)");
         } else if let Some(text) = plain_text(payload) {
             self.page.write_str(", text: ");
-            self.text(text);
+            write_string(text, self.look.full, &mut self.page);
             // One of a byte is hardly meant as an item.
             if is_item && payload.len() > 1 {
                 self.page.write_str("\n      also CBOR: ");
