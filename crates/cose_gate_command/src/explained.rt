@@ -23,6 +23,8 @@ const LINE: usize = 256;
 pub struct Note {
     /// Why it is no, or under which key it is yes; empty if that isn't known.
     pub(crate) reason: String,
+    /// Whether nothing is said of a yes.
+    pub(crate) is_quiet: bool,
     /// Whether the question is about one signature of several.
     pub(crate) is_of_signer: bool,
     /// The front of a line. It has memory from the beginning, so that a run tells that it is out of
@@ -44,6 +46,7 @@ impl Note {
         }
         Note {
             reason: String::new(alloc),
+            is_quiet: false,
             is_of_signer: false,
             line,
             keys: "",

@@ -86,6 +86,7 @@ fn put_more(notice: &Notice, place: Place, note: &mut Note) {
     let mut page = Page::new(&mut note.line);
     match notice {
         Notice::Item(entry) => match entry.verdict {
+            Verdict::Passed if note.is_quiet => {}
             Verdict::Passed => return,
             Verdict::Refused(Refusal::Judged(index)) => return put_judged(index, note),
             Verdict::Refused(refusal) => write_refusal(refusal, &mut page),

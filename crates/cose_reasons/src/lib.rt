@@ -1,4 +1,4 @@
-//! Why a program ends early, and why the judge of `cose-gate` says no, in words.
+//! Why a program ends early, and why `cose-gate` and its judge say no, in words.
 #![tactic(auto)]
 
 mod keys;
