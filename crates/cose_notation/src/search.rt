@@ -80,7 +80,7 @@ struct Search<'a> {
     alloc: Global,
     sources: Vec<Source>,
     strings: Vec<OpenString>,
-    levels: Vec<LevelKind>,
+    levels: Vec<Header>,
     maps: Vec<Map>,
     entries: Vec<Entry>,
     sets: Vec<Set>,
@@ -211,7 +211,7 @@ impl<'a> Search<'a> {
     fn begin(&mut self, header: Header, step: Step) -> Result<(), NotWritten> {
         let is_alone = matches!(step.place, Place::Top | Place::Value);
         let is_in_set = self.is_in_set(step.place);
-        self.levels.push(kind_of(header))?;
+        self.levels.push(header)?;
         match header {
             Header::Map(_) => self.maps.push(Map {
                 first: self.entries.len(),
@@ -496,8 +496,8 @@ impl<'a> Search<'a> {
             };
             self.begin_value(at);
             match level {
-                LevelKind::Map => self.close(source.to, false)?,
-                LevelKind::Array => self.end_set(source.to)?,
+                Header::Map(_) => self.close(source.to, false)?,
+                Header::Array(_) => self.end_set(source.to)?,
                 _ => {}
             }
             let _ = self.levels.pop();
@@ -596,16 +596,6 @@ fn add_strings(alloc: Global, held: &Held, inner: &mut Vec<Held>) -> Result<bool
         inner.push(search.held_in(*string)?)?;
     }
     Ok(!search.hidden.is_empty())
-}
-
-fn kind_of(header: Header) -> LevelKind {
-    match header {
-        Header::Array(_) => LevelKind::Array,
-        Header::Map(_) => LevelKind::Map,
-        Header::Bytes(_) => LevelKind::Bytes,
-        Header::Text(_) => LevelKind::Text,
-        _ => LevelKind::Tag,
-    }
 }
 
 fn is_chunk(place: Place) -> bool {

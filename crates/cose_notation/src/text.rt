@@ -50,9 +50,13 @@ pub fn write_shown<P: fmt::Write>(
     }
 }
 
-/// Writes the id of a key in hex, and as a text if it is one. No more than 64 bytes are shown,
+/// Writes which key, by its id in hex, and as a text if it is one. No more than 64 bytes are shown,
 /// unless it is to be shown whole, and none if an item in it is hidden.
 pub fn write_shown_id<P: fmt::Write>(id: View<'_>, whole: bool, page: &mut Page<'_, P>) {
+    if id.is_empty() {
+        page.write_str("the key without an id");
+        return;
+    }
     if id.holds_hidden() {
         page.write_str("...");
         return;

@@ -66,12 +66,8 @@ struct Id<'a> {
 /// A question about a COSE_Mac0.
 #[derive(Clone, Copy)]
 pub struct Question<'a> {
-    /// Its protected header.
-    pub protected: &'a ProtectedHeader,
-    /// Its unprotected header.
-    pub unprotected: &'a Header,
-    /// Whether its key id isn't shown, whatever it is.
-    pub hides_id: bool,
+    /// Its headers.
+    pub headers: Headers<'a>,
     /// The bytes that its tag covers.
     pub covered: &'a [u8],
     /// Its tag.
@@ -104,12 +100,7 @@ fn write_reason<P: fmt::Write>(
     question: Question<'_>,
     page: &mut Page<'_, P>,
 ) -> bool {
-    let headers = Headers {
-        protected: question.protected,
-        unprotected: question.unprotected,
-        hides_id: question.hides_id,
-    };
-    match secret_or_reason(book, headers, page) {
+    match secret_or_reason(book, question.headers, page) {
         Some(secret) => {
             let whole = hmac_sha256(secret.bytes, question.covered);
             write_wrong_tag(
@@ -297,16 +288,11 @@ fn write_id<P: fmt::Write>(book: &KeyBook<'_>, id: Id<'_>, page: &mut Page<'_, P
 
 /// Writes by which algorithm, and under the key with which id, a message passes.
 pub fn write_key<P: fmt::Write>(book: &KeyBook<'_>, id: &[u8], page: &mut Page<'_, P>) {
+    let (alloc, look) = (book.alloc(), book.look());
     page.write_str("HMAC 256/256, ");
-    if id.is_empty() {
-        page.write_str("the key without an id");
-        return;
+    if let Some(masked) = page.kept(mask(alloc, look, id)) {
+        write_shown_id(masked.view(), look.full, page);
     }
-    let id = Id {
-        bytes: id,
-        is_hidden: false,
-    };
-    write_id(book, id, page);
 }
 
 fn write_key_id<P: fmt::Write>(book: &KeyBook<'_>, id: Id<'_>, page: &mut Page<'_, P>) {

@@ -37,7 +37,8 @@ impl<'a, P: fmt::Write> Says for Text<'a, P> {
             Said::Answer(Answer::Yes(id)) => {
                 page.write_str("  check: the MAC is good");
                 if let Some(id) = id {
-                    write_key(id.view(), self.look.full, page);
+                    page.write_str(", under ");
+                    write_shown_id(id.view(), self.look.full, page);
                 }
                 page.write_str("\n");
             }
@@ -109,16 +110,6 @@ impl<'a, P: fmt::Write> Says for Text<'a, P> {
         }
         self.page.end()
     }
-}
-
-/// Writes under which key, by its id.
-fn write_key<P: fmt::Write>(id: View<'_>, is_whole: bool, page: &mut Page<'_, P>) {
-    if id.is_empty() {
-        page.write_str(", under the key without an id");
-        return;
-    }
-    page.write_str(", under ");
-    write_shown_id(id, is_whole, page);
 }
 
 /// Writes what isn't checked of a message that may pass, and what does check it.
