@@ -123,6 +123,7 @@ rows() {
 0|$T/many|passed 2000, refused 0|cose-gate keys.cbor 01 < $T/many
 0|||[ "$(cose-gate --quiet keys.cbor 01 < $T/many 2>&1 > /dev/null)" = 'passed 2000, refused 0' ]
 0|||[ "$(cose-gate --summary keys.cbor 01 < mixed.cbor 2>&1 > /dev/null)" = "$(cose-gate keys.cbor 01 < mixed.cbor 2>&1 > /dev/null | tail -n 1)" ]
+0|||cose-gate --verbose keys.cbor 01 < one.cbor 2>&1 > /dev/null | grep -A 1 -x 'item 1 at 0: passed' | grep -qx '  HMAC 256/256, h'\''3031'\'' ("01")'
 0|||cmp <(cose-gate --verbose keys.cbor 01 < mixed.cbor 2>&1 > /dev/null | grep -v '^  ') <(cose-gate keys.cbor 01 < mixed.cbor 2>&1 > /dev/null)
 0||passed 2000, refused 0|cose-ask --lines 01 < $T/many > $T/lines
 0|$T/many|passed 2000, refused 0|cose-pass $T/lines 01 < $T/many

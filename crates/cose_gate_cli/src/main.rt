@@ -38,7 +38,7 @@ FILE: the input; it is standard input if it is left out. Options may be anywhere
 is one.
 With --strict a message that isn't in canonical encoding already is refused: NotShortest.
 On standard error: a line for each item, and at the end how many passed and were refused.
-With --verbose indented lines after these say why an item is refused, or the run stops.
+With --verbose indented lines say by which key an item passes, why it is refused, or the run stops.
 With --quiet an item that passed has no line, with --summary no item has: only the last line is.
 With --stream the input is one such message, of any size: it is checked as it comes, and
 nothing is written to standard output. PAYLOAD, which is a regular file or not there yet, gets

@@ -15,12 +15,16 @@ pub enum Role {
     /// What is in the tag of a message: an array, and at this place in it a list of signatures or
     /// recipients.
     Message(Option<usize>),
-    /// Such a list, and one of them.
+    /// Such a list.
     List,
+    /// One of them.
     One,
-    /// A protected header, and the map of a header.
+    /// A protected header.
     Protected,
+    /// The map of a header.
     Header,
+    /// What is in tag 24: a byte string that holds an item (RFC 8949, section 3.4.5.1).
+    Encoded,
     /// Anything else.
     Plain,
 }
@@ -54,6 +58,7 @@ pub fn inside_of(header: Header, role: Role) -> Inside {
         (Header::Tag(16..=18), Role::Top) => Inside::Each(Role::Message(None)),
         (Header::Tag(96 | 98), Role::Top) => Inside::Each(Role::Message(Some(3))),
         (Header::Tag(97), Role::Top) => Inside::Each(Role::Message(Some(4))),
+        (Header::Tag(24), _) => Inside::Each(Role::Encoded),
         (Header::Array(_), Role::Message(list)) => Inside::Parts(list),
         (Header::Array(_), Role::List) => Inside::Each(Role::One),
         (Header::Array(_), Role::One) => Inside::Parts(None),
