@@ -7,7 +7,7 @@ top=$(cd "$(dirname "$(readlink -f "${BASH_SOURCE[0]}")")/.." && pwd)
 name=$1 crate=$2
 shift 2
 
-# Writes the text that is this constant of the program.
+# Writes what this constant of the program says.
 page() {
   exec awk -v start="const $1: " '
     index($0, start) == 1 { inside = 1; sub(/^.*= "/, "") }
