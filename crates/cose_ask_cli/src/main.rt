@@ -1,8 +1,8 @@
-//! `cose-ask [--strict] [--lines] [--fields] [AADHEX]`: reads a CBOR sequence from standard input,
-//! and writes the records of all questions that the gate asks about it to standard output. AADHEX
-//! is the external data in hex. `cose-ask --keys KEYS [--strict] [AADHEX] [--cwt TERMS]`: writes a
-//! block for each item, with the questions that the rules allow under the keys of the file KEYS,
-//! and with `--cwt` of tokens that pass by TERMS.
+//! `cose-ask [--strict] [--lines] [--fields] [AADHEX]`, or with `--aad AADHEX [FILE]`: reads a CBOR
+//! sequence from FILE or standard input, and writes the records of all questions that the gate asks
+//! about it to standard output. AADHEX is the external data in hex. `cose-ask --keys KEYS [--strict]
+//! [--aad AADHEX] [--cwt TERMS] [FILE]`: writes a block for each item, with the questions that the
+//! rules allow under the keys of the file KEYS, and with `--cwt` of tokens that pass by TERMS.
 #![tactic(auto)]
 
 use ciborium_ll::Io;
@@ -17,7 +17,7 @@ use std::{env, fs};
 /// What `--version` prints.
 const VERSION: &str = "cose-ask 0.8\n";
 
-/// What `-h` and `--help` print. The script `cose-ask` prints the same.
+/// What `-h` and `--help` print. `scripts/run.sh` takes it from here.
 const HELP: &str = "\
 usage: cose-ask [--strict] [--lines] [--fields] [AADHEX] < INPUT > QUESTIONS
        cose-ask [OPTION..] --aad AADHEX [FILE] > QUESTIONS

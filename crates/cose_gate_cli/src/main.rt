@@ -1,8 +1,9 @@
 //! `cose-gate [--strict] [--verbose] [--quiet] [--summary] KEYS [AADHEX]`, or with `--keys KEYS
-//! [--aad AADHEX] [FILE]`: reads a CBOR sequence from FILE or standard input, and writes the messages whose tags are good under the keys of the file KEYS
-//! to standard output. AADHEX is the external data in hex. With `--strict` only messages in
-//! canonical encoding pass; with `--verbose` standard error says more, with `--quiet` nothing of
-//! what passed, with `--summary` nothing of any item.
+//! [--aad AADHEX] [FILE]`: reads a CBOR sequence from FILE or standard input, and writes the
+//! messages whose tags are good under the keys of the file KEYS to standard output. AADHEX is the
+//! external data in hex. With `--strict` only messages in canonical encoding pass; with `--verbose`
+//! standard error says more, with `--quiet` nothing of what passed, with `--summary` nothing of any
+//! item.
 //!
 //! `cose-gate --stream [--payload PAYLOAD] [--verbose] KEYS [AADHEX]`, or with `--keys KEYS
 //! [--aad AADHEX] [FILE]`: checks that the input is one such message, as it comes, and puts its
@@ -25,7 +26,7 @@ use std::{env, fs};
 /// What `--version` prints.
 const VERSION: &str = "cose-gate 0.8\n";
 
-/// What `-h` and `--help` print. The script `cose-gate` prints the same.
+/// What `-h` and `--help` print. `scripts/run.sh` takes it from here.
 const HELP: &str = "\
 usage: cose-gate [--strict] [--verbose] [--quiet] [--summary] KEYS [AADHEX] < INPUT > PASSED
        cose-gate [OPTION..] --keys KEYS [--aad AADHEX] [FILE] > PASSED

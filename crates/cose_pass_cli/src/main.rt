@@ -1,6 +1,7 @@
-//! `cose-pass [--digests] [--strict] ACCEPTED [AADHEX]`: reads a CBOR sequence from standard input,
-//! and writes the messages all of whose signatures were accepted to standard output. ACCEPTED is a
-//! file with the accepted records, or digests, AADHEX the external data in hex.
+//! `cose-pass [--digests] [--strict] ACCEPTED [AADHEX]`, or with `--accepted ACCEPTED [--aad AADHEX]
+//! [FILE]`: reads a CBOR sequence from FILE or standard input, and writes the messages all of whose
+//! signatures were accepted to standard output. ACCEPTED is a file with the accepted records, or
+//! digests, AADHEX the external data in hex.
 #![tactic(auto)]
 
 use ciborium_ll::Io;
@@ -15,7 +16,7 @@ use std::{env, fs};
 /// What `--version` prints.
 const VERSION: &str = "cose-pass 0.8\n";
 
-/// What `-h` and `--help` print. The script `cose-pass` prints the same.
+/// What `-h` and `--help` print. `scripts/run.sh` takes it from here.
 const HELP: &str = "\
 usage: cose-pass [--digests] [--strict] ACCEPTED [AADHEX] < INPUT > PASSED
        cose-pass [OPTION..] --accepted ACCEPTED [--aad AADHEX] [FILE] > PASSED
@@ -30,14 +31,14 @@ record is the highest byte of its length, and always 0.) An empty file accepts
 nothing.
 AADHEX: the external data in hex, empty if it is left out. FILE: the input; it is
 standard input if it is left out. Options may be anywhere; after -- no word is one.
-  --digests  ACCEPTED has digests of questions in place of records, 32
-             bytes each, binary: see cose-pass(1)
+  --digests  ACCEPTED has digests of questions in place of records, 32 bytes each,
+             binary: see cose-pass(1)
   --strict   refuse messages that are not in canonical encoding
 Standard error has a line for each item, and at the end how many passed and were
 refused.
 Status 0: no item was refused. 1: some were. 2: wrong arguments, or AADHEX is not
-hex. 3: ACCEPTED or FILE can't be read, or ACCEPTED has no records or digests. 4: the input is not
-CBOR, input or output failed, or out of memory.
+hex. 3: ACCEPTED or FILE can't be read, or ACCEPTED has no records or digests. 4: the
+input is not CBOR, input or output failed, or out of memory.
 ";
 
 fn main(rt: HostRuntime) -> ExitCode {

@@ -1,6 +1,6 @@
 //! `cose-sift [--untag] [--max BYTES] [FILE]`: reads a CBOR sequence from FILE or standard input,
-//! and writes the items that the gate can read to standard output, byte for byte, so that one that it can't read
-//! doesn't stop it.
+//! and writes the items that the gate can read to standard output, byte for byte, so that one that
+//! it can't read doesn't stop it.
 #![tactic(auto)]
 
 mod arguments;
@@ -26,7 +26,7 @@ use std::process::ExitCode;
 /// What `--version` prints.
 const VERSION: &str = "cose-sift 0.8\n";
 
-/// What `-h` and `--help` print. The script `cose-sift` prints the same.
+/// What `-h` and `--help` print. `scripts/run.sh` takes it from here.
 const HELP: &str = "\
 usage: cose-sift [--untag] [--max BYTES] [FILE] < INPUT > SIFTED
 Reads a CBOR sequence, and writes the items that cose-gate can read, byte for byte.
