@@ -16,6 +16,11 @@ abbrev pub input_remaining : {S F : Type 0} → (S → Option (List ℕ)) → (F
 input_remaining s f (input.Standard r) = s r
 input_remaining s f (input.File r) = f r
 
+-- it is a file
+abbrev pub IsFile : {S F : Type 0} → Input S F → Type 0
+IsFile (input.Standard r) = ⊥
+IsFile (input.File r) = Unit {0}
+
 -- the lines on a FILE that can't be opened for a fault of this kind, and the status
 abbrev pub no_input_lines : List ℕ → ErrorKind → List ℕ
 no_input_lines name kind.OutOfMemory = codes "stopped: memory\n"

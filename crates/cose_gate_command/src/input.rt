@@ -1,8 +1,7 @@
 //! The input of a run: standard input, or FILE.
-ghost use Rattle.std.specs.Prelude.{◌≡◌, ◌++◌, MatchOption, MatchResult, Ok, Some, ⊥, codes};
+ghost use Rattle.std.specs.Prelude.{◌≡◌, ◌++◌, MatchOption, MatchResult, Ok, codes};
 ghost use Rattle.std.specs.Prelude.{option_copied};
-ghost use Rattle.std.specs.declared.option.Option.TheVariants.{None};
-ghost use Rattle.cose_gate_command.specs.Input.{TellsNoInput, input_remaining, no_input_lines};
+ghost use Rattle.cose_gate_command.specs.Input.{IsFile, TellsNoInput, input_remaining, no_input_lines};
 ghost use Rattle.cose_gate_command.specs.Input.{no_input_status};
 ghost use Rattle.cose_gate_command.specs.KeyFiles.{indented};
 ghost use Rattle.cose_gate_command.specs.Starting as spec;
@@ -48,7 +47,7 @@ pub fn open_input<R: Files, S: Drop, E: Write>(
 ) -> Result<Input<S, R::File>, u8>
     ensures none { MatchOption (option_copied name.entry)
         ((result ≡ Ok (Standard standard)) × (err.new ≡ err.old))
-        (λ file. MatchResult result (λ _. err.new ≡ err.old)
+        (λ file. MatchResult result (λ input. IsFile input × (err.new ≡ err.old))
         (λ status. TellsNoInput E.Write file status err.old err.new)) }
 {
     let Some(name) = name else {
