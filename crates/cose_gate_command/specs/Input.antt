@@ -1,5 +1,5 @@
 -- The input of a run.
-use Rattle.std.specs.Prelude.{◌≡◌, ◌++◌, ℕ, List, Option, codes}
+use Rattle.std.specs.Prelude.{◌≡◌, ◌++◌, ℕ, List, Option, Bool, true, false, if◌then◌else◌, codes}
 use Rattle.std.specs.declared.io.ErrorKind.{ErrorKind}
 use Rattle.std.specs.declared.io.ErrorKind.TheVariants as kind
 use Rattle.ciborium_ll.specs.declared.write.Write.{Ghosts as Writes}
@@ -22,14 +22,17 @@ IsFile (input.Standard r) = ⊥
 IsFile (input.File r) = Unit {0}
 
 -- the lines on a FILE that can't be opened for a fault of this kind, and the status
+abbrev pub is_memory : ErrorKind → Bool
+is_memory kind.OutOfMemory = true
+is_memory _ = false
+
 abbrev pub no_input_lines : List ℕ → ErrorKind → List ℕ
-no_input_lines name kind.OutOfMemory = codes "stopped: memory\n"
-no_input_lines name k = codes "input: cannot be read\n"
-    ++ indented (visible_or (codes "FILE") name ++ (codes ": " ++ file_fault k))
+no_input_lines name k = if is_memory k then codes "stopped: memory\n"
+    else (codes "input: cannot be read\n"
+    ++ indented (visible_or (codes "FILE") name ++ (codes ": " ++ file_fault k)))
 
 abbrev pub no_input_status : ErrorKind → ℕ
-no_input_status kind.OutOfMemory = 4
-no_input_status k = 3
+no_input_status k = if is_memory k then 4 else 3
 
 -- FILE can't be opened, which is told
 abbrev pub TellsNoInput : {W F : Type 0} → Writes W F → List ℕ → ℕ → W → W → Type 0

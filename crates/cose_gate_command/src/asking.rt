@@ -87,10 +87,10 @@ pub fn ask<'a, R: Read, W: Write, E: Write>(
 }
 
 /// Asks by the rules, under the keys of this file.
-fn ask_keys<R: Read, W: Write, E: Write>(
+fn ask_keys<'a, R: Read, W: Write, E: Write>(
     alloc: Global,
-    asked: AskArguments<'_>,
-    file: KeyFile<'_>,
+    asked: AskArguments<'a>,
+    file: KeyFile<'a>,
     input: &mut R,
     out: &mut W,
     err: &mut E,

@@ -1,8 +1,8 @@
 //! The input of a run: standard input, or FILE.
 ghost use Rattle.std.specs.Prelude.{◌≡◌, ◌++◌, MatchOption, MatchResult, Ok, codes};
 ghost use Rattle.std.specs.Prelude.{option_copied};
-ghost use Rattle.cose_gate_command.specs.Input.{IsFile, TellsNoInput, input_remaining, no_input_lines};
-ghost use Rattle.cose_gate_command.specs.Input.{no_input_status};
+ghost use Rattle.cose_gate_command.specs.Input.{IsFile, TellsNoInput, input_remaining, is_memory};
+ghost use Rattle.cose_gate_command.specs.Input.{no_input_lines, no_input_status};
 ghost use Rattle.cose_gate_command.specs.KeyFiles.{indented};
 ghost use Rattle.cose_gate_command.specs.Starting as spec;
 ghost use Rattle.cose_gate_command.specs.declared.input.Input.TheVariants.{Standard};
@@ -64,17 +64,19 @@ fn say_no_input<E: Write>(name: &str, kind: ErrorKind, err: &mut E) -> u8
     ensures status { result ≡ no_input_status kind }
     ensures said { Wrote E.Write err.old err.new (no_input_lines name.now kind) }
 {
-    match kind {
-        ErrorKind::OutOfMemory => {
-            write("stopped: memory\n", err);
-            4
-        }
-        kind => {
-            write("input: cannot be read\n", err);
-            write_fault(visible_or("FILE", name), file_fault(kind), err);
-            3
-        }
+    if is_memory(kind) {
+        write("stopped: memory\n", err);
+        return 4;
     }
+    write("input: cannot be read\n", err);
+    write_fault(visible_or("FILE", name), file_fault(kind), err);
+    3
+}
+
+fn is_memory(kind: ErrorKind) -> bool
+    ensures { result ≡ is_memory kind }
+{
+    matches!(kind, ErrorKind::OutOfMemory)
 }
 
 /// Writes the name of a file and its fault.
