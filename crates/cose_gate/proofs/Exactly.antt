@@ -20,7 +20,9 @@ use Rattle.cose_gate_core.proofs.Unique.{no_message}
 use Rattle.cose_gate.specs.declared.fault.StreamFault.{StreamFault}
 use Rattle.cose_gate.specs.declared.fault.StreamFault.TheVariants as fault
 use Rattle.cose_gate.specs.Stated.{IsSingle, IsSingleTag, Stated, closing}
-use Rattle.cose_gate.specs.Streaming.{NamesWhy, Unstreamed, UnstreamedBy, IsShapeFault, MessageOpening, TellsFault, IsLongFor, Answered}
+use Rattle.cose_gate.specs.Opening.{IsShapeFault, MessageOpening}
+use Rattle.cose_gate.specs.StreamFaults.{NamesWhy, TellsFault, IsLongFor}
+use Rattle.cose_gate.specs.Streaming.{Unstreamed, UnstreamedBy, Answered}
 use Rattle.cose_gate.proofs.Faults.{Names}
 use Rattle.cose_gate.proofs.Forms.{shaped, not_four_items, form_by}
 use Rattle.cose_gate.proofs.Lengths.{stated_whole}
@@ -32,10 +34,10 @@ stated_first b front rest r n h s e t = (split_heads t.title s.tag_title r _ h (
 stated_third : (limits : Bounds) (b front rest : List ℕ) (n : ℕ) (h : Header) → Stated front n → b ≡ front ++ rest → MessageOpening limits b h → h ≡ Bytes (Some n)
 stated_third limits b front rest n h s e o =
     let tail : List ℕ = (s.payload ++ (s.last ++ closing s.count)) ++ rest in
-    let p = o.right in
+    let p = o.right.begins in
     let a = split_heads p.tag_first.title s.tag_title p.inside (s.array_title ++ (s.headers ++ (s.length_title ++ tail))) (Tag p.number) (Tag s.number) p.tag_first.is_title s.is_tag (sym p.tag_first.whole ∙ stated_whole b front rest n s e) in
-    let c = split_heads p.array_next.title s.array_title p.items (s.headers ++ (s.length_title ++ tail)) (Array o.count) (Array s.count) p.array_next.is_title s.is_array (sym p.array_next.whole ∙ a.rests) in
-    let f = p.fronts in
+    let c = split_heads p.array_next.title s.array_title p.items (s.headers ++ (s.length_title ++ tail)) (Array p.count) (Array s.count) p.array_next.is_title s.is_array (sym p.array_next.whole ∙ a.rests) in
+    let f = o.right.fronts in
     let d : tree_count f.reads.trees ≡ 2 = all_count f.reads.trees o.headers f.reads.means ∙ o.are_two in
     let none : o.third ≡ s.length_title ++ tail = behind_two f.reads.trees s.two o.third (s.length_title ++ tail) f.spelling s.headers f.reads.spells s.spells d s.are_two (sym f.whole ∙ c.rests) in
     (split_heads o.title.title s.length_title o.behind tail h (Bytes (Some n)) o.title.is_title s.is_length (sym o.title.whole ∙ none)).heads
@@ -44,7 +46,7 @@ stated_third limits b front rest n h s e o =
 misshapen : (limits : Bounds) (b : List ℕ) (t : Tree) (e : CoseFault) → IsShapeFault limits b t e → (f : CoseFault) × IsMisshapen limits t f
 misshapen limits b t e (inl m) = (e, m)
 misshapen limits b t e (inr (ts, other, _)) =
-    let f = form_by other.number other.is_single in
+    let f = form_by other.begins.number other.begins.is_single in
     (unexpected, shaped limits f.0 t (array ts) unexpected (other.is ∙ ap (λ z. tag z (array ts)) f.1) (not_four_items limits f.0 ts other.other))
 
 module _ (levels layers : ℕ) {E : Type 0} (ends : E → Bool) (b : List ℕ) (o room : ℕ) (t : Tree) (front rest : List ℕ) (m : MessageFields) (n : ℕ) (e : b ≡ front ++ rest) (reads : Reads front levels t) (j : IsJudged (within levels layers false) t m) (s : Stated front n) where

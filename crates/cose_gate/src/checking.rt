@@ -2,11 +2,13 @@
 ghost use Rattle.std.specs.Prelude.{◌≡◌, ◌<◌, IfOk, IfErr, OnErr, length, false};
 ghost use Rattle.ciborium_ll.specs.Seen.{Takes};
 ghost use Rattle.ciborium_ll.specs.Views.{left_of, offset_of, seen};
+ghost use Rattle.cose_gate_core.specs.Findings.{usual};
 ghost use Rattle.cose_gate_core.specs.Terms.{limits_by};
 ghost use Rattle.cose_gate.specs.Streaming.{CheckedAsUsual, CheckedBy, CopiedBy, CopiedPart};
 ghost use Rattle.cose_gate.specs.Streaming.{WritesAll};
-ghost use Rattle.cose_gate.specs.Streaming.{Unstreamed, UnstreamedBy, IsFarFor, NamesWhy, Steady};
-ghost use Rattle.cose_gate.specs.Streaming.{AnswersStated, AnswersStatedBy, IsPlaced};
+ghost use Rattle.cose_gate.specs.StreamFaults.{IsFarFor, NamesWhy, Steady};
+ghost use Rattle.cose_gate.specs.Streaming.{Unstreamed, UnstreamedBy};
+ghost use Rattle.cose_gate.specs.Streaming.{AnswersStatedBy, IsPlaced};
 
 use crate::fault::StreamFault;
 use crate::feeding::{feed_front, feed_payload};
@@ -61,7 +63,8 @@ pub fn stream_check<R: Read, J: Judge>(
 
     // If such a message is in front, the result is Ok or a fault of memory, of the reader, or of an
     // offset that grows too long.
-    ensures exactly { AnswersStated R.ends (length buffer.old) (seen R.Read decoder.old) result }
+    ensures exactly { AnswersStatedBy usual R.ends (length buffer.old)
+        (seen R.Read decoder.old) result }
 {
     stream_check_with(alloc, Limits::default(), decoder, buffer, aad, judge)
 }
