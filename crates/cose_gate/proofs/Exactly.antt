@@ -14,7 +14,7 @@ use Rattle.ciborium.proofs.Excludes.{excludes}
 use Rattle.ciborium.proofs.ChildLemmas.{all_count}
 use Rattle.coset_labels.specs.Faults.{CoseFault, unexpected}
 use Rattle.cose_gate_core.specs.Questions.{MessageFields}
-use Rattle.cose_gate_core.specs.Findings.{Bounds, IsJudged, within}
+use Rattle.cose_gate_core.specs.Findings.{Bounds, IsJudged, within, usual}
 use Rattle.cose_gate_core.specs.Misshapen.{IsMisshapen}
 use Rattle.cose_gate_core.proofs.Unique.{no_message}
 use Rattle.cose_gate.specs.declared.fault.StreamFault.{StreamFault}
@@ -22,7 +22,7 @@ use Rattle.cose_gate.specs.declared.fault.StreamFault.TheVariants as fault
 use Rattle.cose_gate.specs.Stated.{IsSingle, IsSingleTag, Stated, closing}
 use Rattle.cose_gate.specs.Opening.{IsShapeFault, MessageOpening}
 use Rattle.cose_gate.specs.StreamFaults.{NamesWhy, TellsFault, IsLongFor}
-use Rattle.cose_gate.specs.Streaming.{Unstreamed, UnstreamedBy, Answered}
+use Rattle.cose_gate.specs.Streaming.{UnstreamedBy, Answered}
 use Rattle.cose_gate.proofs.Faults.{Names}
 use Rattle.cose_gate.proofs.Forms.{shaped, not_four_items, form_by}
 use Rattle.cose_gate.proofs.Lengths.{stated_whole}
@@ -76,6 +76,6 @@ answered levels layers ends (Some b) o room (Err f) k = λ t front rest m n e re
 
 -- within the default limits
 pub usual_err : {E : Type 0} (ends : E → Bool) (levels layers room : ℕ) (s : Seen) (r : Result Bool (StreamFault E)) → levels ≡ 256 → layers ≡ 16
-    → IfErr r (NamesWhy ends (UnstreamedBy (within levels layers false)) room s) → IfErr r (NamesWhy ends Unstreamed room s)
+    → IfErr r (NamesWhy ends (UnstreamedBy (within levels layers false)) room s) → IfErr r (NamesWhy ends (UnstreamedBy usual) room s)
 usual_err ends levels layers room s r e f k =
     subst (λ (z : ℕ). IfErr r (NamesWhy ends (UnstreamedBy (within z 16 false)) room s)) e (subst (λ (z : ℕ). IfErr r (NamesWhy ends (UnstreamedBy (within levels z false)) room s)) f k)

@@ -1,5 +1,5 @@
--- What the bytes of a message show from its tag on, whether or not an item is readable: how far they
--- are right, and which fault of shape comes then (RFC 9052, sections 2, 4.2 and 6.2).
+-- What the bytes of a message show from its tag on, whether or not an item is readable: how far
+-- they are right, and which fault of shape comes then (RFC 9052, sections 2, 4.2 and 6.2).
 use Rattle.std.specs.Prelude.{◌≡◌, ◌≢◌, ℕ, ◌-◌, ◌<◌, ◌≤◌, ◌⊎◌, List, ◌∷◌, ◌++◌, length, Option, None, Some, false, IsTrue}
 use Rattle.ciborium_ll.specs.declared.hdr.Header.{Header}
 use Rattle.ciborium_ll.specs.declared.hdr.Header.TheVariants.{Simple, Tag, Bytes, Array, Break}
@@ -113,4 +113,3 @@ abbrev pub IsShapeFault : Bounds → List ℕ → Tree → CoseFault → Type 0
 IsShapeFault limits b t e =
     IsMisshapen limits t e
     ⊎ ((elements : Trees) × IsOtherCount b t elements × IsHeaderFault limits elements e)
-

@@ -14,14 +14,13 @@ use Rattle.ciborium.specs.Reading.{IfKnown}
 use Rattle.ciborium.specs.declared.de.Error.TheVariants as de
 use Rattle.cose_gate_core.specs.Questions.{Question, MessageFields, questions, payload_of}
 use Rattle.cose_gate_core.specs.Asked.{first_no, folded_over}
-use Rattle.cose_gate_core.specs.Findings.{Bounds, usual, IsJudged}
-use Rattle.cose_gate.specs.Opening.{MessageOpening, BeginsPayload, ShowsFault, IsShapeFault}
+use Rattle.cose_gate_core.specs.Findings.{Bounds, IsJudged}
+use Rattle.cose_gate.specs.Opening.{BeginsMessage, MessageOpening, BeginsPayload, ShowsFault, IsShapeFault}
 use Rattle.cose_gate.specs.Stated.{IsSingleTag, IsSingle, Stated, InPieces, before_payload}
+use Rattle.cose_gate.specs.StreamFaults.{Why, damaged, untagged, tagged, shape, without_payload, without_length, refused, IsLongFor}
 use Rattle.cose_gate.specs.declared.checking.Place.{Place}
 use Rattle.cose_gate.specs.declared.fault.StreamFault.{StreamFault}
 use Rattle.cose_gate.specs.declared.fault.StreamFault.TheVariants as fault
-pub use Rattle.cose_gate.specs.Opening.{BeginsMessage}
-pub use Rattle.cose_gate.specs.StreamFaults.{Why, damaged, untagged, tagged, shape, without_payload, without_length, refused, HoldsNoMemory, TellsFault, IsLongFor}
 
 -- the bytes are one message of a stated length within these limits that was asked about: the
 -- answer, what the judge was told, and the lengths of the pieces that it was fed
@@ -55,19 +54,13 @@ pub record CopiedBy {T : Type 0} (limits : Bounds) (decided : T → Question →
   pub is_payload : payload_of checked.message ≡ Some payload
   pub is_copied : IsCopied payload
 
--- if the bytes to come are known, and begin with a message of a stated length, its payload is in this
--- place
+-- if the bytes to come are known, and begin with a message of a stated length, its payload is in
+-- this place
 abbrev pub IsPlaced : Seen → Place → Type 0
 IsPlaced old place =
     IfKnown old.left (λ b. (front rest : List ℕ) (size : ℕ) (s : Stated front size)
     → b ≡ front ++ rest
     → (place.at ≡ old.offset + length (before_payload s)) × (place.length ≡ size))
-
--- within the limits if none are chosen
-abbrev pub CheckedAsUsual : {T : Type 0} → (T → Question → T) → (Question → Bool) → List ℕ → T → T → ℕ
-    → List ℕ → Bool → List ℕ → Type 0
-CheckedAsUsual decided allows aad told told' room lengths answer b =
-    CheckedBy usual decided allows aad told told' room lengths answer b
 
 -- what a writer got of the payload of a message that was to come: nothing, and it is as it was; or
 -- a text that the payload begins with, if the bytes are known, up to its end or to one failure of
@@ -94,10 +87,6 @@ UnstreamedBy limits stop b without_payload =
     MessageOpening limits b (Simple 22) ⊎ MessageOpening limits b (Simple 23)
 UnstreamedBy limits stop b without_length = MessageOpening limits b (Bytes None)
 UnstreamedBy limits stop b refused = BeginsMessage b
-
--- within the limits if none are chosen
-abbrev pub Unstreamed : ℕ → List ℕ → Why → Type 0
-Unstreamed stop b w = UnstreamedBy usual stop b w
 
 -- Ok, or a fault that says nothing of the bytes: being out of memory, a failure of the reader,
 -- offsets that grow too long
