@@ -1,5 +1,5 @@
 -- Where a judged message of a stated length begins, nothing but Ok is due.
-use Rattle.std.proofs.Common.{◌≡◌, ◌+◌, inl, inr, ℕ, Bool, List, ◌++◌, length, Option, None, Some, Result, Ok, Err, IfErr, refl, sym, ap, subst, ◌∙◌, false}
+use Rattle.std.proofs.Common.{◌≡◌, ◌+◌, inl, inr, ℕ, Bool, List, ◌++◌, length, Option, None, Some, Result, Ok, Err, IfErr, sym, ap, subst, ◌∙◌, false}
 use Rattle.ciborium_ll.specs.declared.hdr.Header.{Header}
 use Rattle.ciborium_ll.specs.declared.hdr.Header.TheVariants.{Tag, Bytes, Array, Simple}
 use Rattle.ciborium_ll.specs.Seen.{Seen}

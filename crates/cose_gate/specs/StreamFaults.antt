@@ -1,5 +1,5 @@
 -- The faults of the streaming check: what each tells of the bytes, and how often the reader failed.
-use Rattle.std.specs.Prelude.{◌≡◌, ◌≢◌, ℕ, ◌+◌, ◌^◌, ◌≤◌, max, List, length, Option, None, Bool, IsTrue, Result, Err, if◌then◌else◌}
+use Rattle.std.specs.Prelude.{◌≡◌, ◌≢◌, ℕ, ◌+◌, ◌^◌, ◌≤◌, max, List, length, None, Bool, IsTrue, Result, Err, if◌then◌else◌}
 use Rattle.ciborium_ll.specs.Seen.{Seen}
 use Rattle.ciborium.specs.Damage.{Fault, end, deep, syntax, semantic}
 use Rattle.ciborium.specs.Reading.{IfKnown, IsNoMemory}
