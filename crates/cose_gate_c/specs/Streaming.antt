@@ -10,7 +10,8 @@ use Rattle.cose_gate.specs.KeyFields.{KeyFields}
 use Rattle.cose_gate.specs.Keys.{HasKeySet}
 use Rattle.cose_gate.specs.Questions.{Question, MessageFields, all_questions, payload_of}
 use Rattle.cose_gate.specs.Stated.{IsSingle, Stated}
-use Rattle.cose_gate.specs.Streaming.{Why, damaged, untagged, tagged, shape, without_payload, without_length, refused, UnstreamedBy}
+use Rattle.cose_gate.specs.StreamFaults.{Why, damaged, untagged, tagged, shape, without_payload, without_length, refused}
+use Rattle.cose_gate.specs.Streaming.{UnstreamedBy}
 use Rattle.cose_gate.specs.Tree.{Tree}
 use Rattle.cose_gate.specs.WrongKeys.{WrongKeySet}
 use Rattle.cose_gate.specs.declared.fault.StreamFault.{StreamFault}

@@ -15,7 +15,8 @@ use Rattle.cose_gate.specs.Questions.{Question, MessageFields, questions, payloa
 use Rattle.cose_gate.specs.ReadError.TheVariants as de
 use Rattle.cose_gate.specs.Reading.{IfKnown}
 use Rattle.cose_gate.specs.Stated.{IsSingle, Stated}
-use Rattle.cose_gate.specs.Streaming.{CopiedPart, TellsFault, IsLongFor, Unstreamed, Why, untagged, tagged, shape, without_payload, without_length}
+use Rattle.cose_gate.specs.StreamFaults.{Why, untagged, tagged, shape, without_payload, without_length, TellsFault, IsLongFor}
+use Rattle.cose_gate.specs.Streaming.{CopiedPart, UnstreamedBy}
 use Rattle.cose_gate.specs.Tree.{Tree}
 use Rattle.cose_gate.specs.declared.fault.StreamFault.{StreamFault}
 use Rattle.cose_gate.specs.declared.fault.StreamFault.TheVariants as fault
@@ -87,7 +88,7 @@ abbrev pub IsRefusedFor : (Question → Bool) → List ℕ → Option (List ℕ)
 IsRefusedFor allows aad left refusal.Judged = BeginsWithMessage allows aad false left (λ rest. Unit {0})
 IsRefusedFor allows aad left refusal.ExtraneousData = BeginsWithMessage allows aad true left (λ rest. rest ≢ [])
 IsRefusedFor allows aad left why =
-    IfKnown left (λ b. (w : Why) × IsWhy why w × Unstreamed (length b) b w)
+    IfKnown left (λ b. (w : Why) × IsWhy why w × UnstreamedBy usual (length b) b w)
 
 -- P holds of a refusal after the whole payload was written: only then it is known what the judge
 -- says
@@ -112,7 +113,8 @@ StreamEnds allows aad left w out out' (Err (stop.Refused why)) =
     IsRefusedFor allows aad left why × CopiedPart usual w out out' left
     × IfWhole why (w.failed out' ≡ w.failed out)
 StreamEnds allows aad left w out out' (Err (stop.Stopped (gating.Decode e))) =
-    IfKnown left (λ b. TellsFault is_end (Unstreamed (length b) b) (IsLongFor 4096 0 b) (fault.Decode e))
+    IfKnown left (λ b. TellsFault is_end (UnstreamedBy usual (length b) b) (IsLongFor 4096 0 b)
+    (fault.Decode e))
     × CopiedPart usual w out out' left
 StreamEnds {W = W} allows aad left w out out' (Err (stop.Stopped gating.Write)) =
     (w.failed out' ≡ w.failed out + 1)
