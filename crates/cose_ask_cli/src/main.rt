@@ -1,8 +1,9 @@
 //! `cose-ask [--strict] [--lines] [--fields] [AADHEX]`, or with `--aad AADHEX [FILE]`: reads a CBOR
 //! sequence from FILE or standard input, and writes the records of all questions that the gate asks
-//! about it to standard output. AADHEX is the external data in hex. `cose-ask --keys KEYS [--strict]
-//! [--aad AADHEX] [--cwt TERMS] [FILE]`: writes a block for each item, with the questions that the
-//! rules allow under the keys of the file KEYS, and with `--cwt` of tokens that pass by TERMS.
+//! about it to standard output. AADHEX is the external data in hex. `cose-ask --keys KEYS`, with
+//! `[--strict] [--aad AADHEX] [--cwt TERMS] [FILE]`: writes a block for each item, with the
+//! questions that the rules allow under the keys of the file KEYS, and with `--cwt` of tokens that
+//! pass by TERMS.
 #![tactic(auto)]
 
 use ciborium_ll::Io;

@@ -62,8 +62,8 @@ pub record IsInFront (limits : Bounds) (aad input : List ℕ) (size at count : �
   pub lies : Lies payload at count front
   pub size_is : size ≡ length front
 
--- the bytes begin with none, or memory ran out: what this fault says of them is true, and its number
--- is said
+-- the bytes begin with none, or memory ran out: what this fault says of them is true, and its
+-- number is said
 pub record IsStopped (limits : Bounds) (input : List ℕ) (IsSaid : ℕ → Type 0) : Type 0 where
   pub why : Why
   pub shown : UnstreamedBy limits (length input) input why

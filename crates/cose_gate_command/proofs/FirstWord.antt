@@ -18,3 +18,5 @@ first_alone o w ws e f g h = rw e (rw f (rw g (rw h refl)))
 
 pub first_other : (o : Options) (w : List ℕ) (ws : List (List ℕ)) → bytes_eq w (codes "--") ≡ false → has w o.named ≡ false → has w o.last ≡ false → is_option w ≡ false → words_by o any (w ∷ ws) ≡ other w ∷ words_by o any ws
 first_other o w ws e f g h = rw e (rw f (rw g (rw h refl)))
+
+pub ruleset first_words = (first_named, first_last, first_alone, first_other)

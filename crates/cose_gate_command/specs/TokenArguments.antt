@@ -1,5 +1,5 @@
--- Which tokens pass, by the arguments of cose-ask: --cwt --at SECONDS [--leeway SECONDS] [--iss ISS]
--- [--aud AUD | --any-aud], anywhere, and at the end [--need CLAIM..].
+-- Which tokens pass, by the arguments of cose-ask: --cwt --at SECONDS [--leeway SECONDS]
+-- [--iss ISS] [--aud AUD | --any-aud], anywhere, and at the end [--need CLAIM..].
 use Rattle.std.specs.Prelude.{ℕ, ◌+◌, ◌-◌, ◌*◌, ◌^◌, ℤ, pos, ◌+ℤ◌, ◌-ℤ◌, List, [], ◌∷◌, map, Result, Ok, Err, Option, None, Some, is_some, unwrap_or, option_and_then, option_copied, Bool, true, false, ◌&&◌, ◌||◌, length, nat_eq, nat_le, nat_lt, bytes_eq, codes, string_bytes, if◌then◌else◌}
 use Rattle.coset_labels.specs.Fields.{LabelFields, number, words}
 use Rattle.cose_rules.specs.Claims.{TermsFields, Receiver, nobody, somebody, anyone}
@@ -76,7 +76,8 @@ has_terms l = is_some (value_of (codes "--at") l) || (is_some (value_of (codes "
 abbrev pub token_in : List Word → Result (Option TermsFields) Wrong
 token_in l =
     if has_alone (codes "--cwt") l then and_then (λ t. Ok (Some t)) (terms_in l)
-    else if has_terms l then Err (says (codes "--cwt is missing: what is asked of tokens is for it"))
+    else if has_terms l
+    then Err (says (codes "--cwt is missing: what is asked of tokens is for it"))
     else Ok None
 
 -- the same, as the code has them

@@ -70,8 +70,8 @@ pub const NO_KEYS: &str = "KEYS is missing: a file with a key set, which cose-ke
 const NO_ACCEPTED: &str = "ACCEPTED is missing: a file with the records that were accepted";
 
 /// What the arguments of `cose-gate` after its name ask for: `--strict`, `--verbose`, `--quiet` and
-/// `--summary`, anywhere, and `KEYS [AADHEX]`, or `--keys KEYS [--aad AADHEX] [FILE]`. After `--` no
-/// word is an option.
+/// `--summary`, anywhere, and `KEYS [AADHEX]`, or `--keys KEYS [--aad AADHEX] [FILE]`. After `--`
+/// no word is an option.
 ///
 /// # Errors
 /// What is wrong with them: with the first word that is wrong, or with their number.

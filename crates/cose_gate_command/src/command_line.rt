@@ -1,9 +1,11 @@
 //! The words of a command line, and what each is.
-ghost use Rattle.std.specs.Prelude.{◌≡◌, ◌∷◌, [], map, string_bytes, MatchOption, option_copied, Some, None, Ok, Err, MatchResult, if◌then◌else◌};
+ghost use Rattle.std.specs.Prelude.{◌≡◌, ◌∷◌, [], map, string_bytes, MatchOption, option_copied};
+ghost use Rattle.std.specs.Prelude.{Some, None, Ok, Err, MatchResult, if◌then◌else◌};
 ghost use Rattle.std.specs.Prelude.{option_map, is_some, IfSome, length, ◌<◌, ◌≤◌, false, bytes_eq};
 ghost use Rattle.std.specs.List.{list_any};
 ghost use Rattle.cose_gate_command.specs.CommandLine as spec;
-ghost use Rattle.cose_gate_command.specs.CommandLine.{line_view, options_view, word_view, wrong_view};
+ghost use Rattle.cose_gate_command.specs.CommandLine.{line_view, options_view, word_view};
+ghost use Rattle.cose_gate_command.specs.CommandLine.{wrong_view};
 
 /// The options of a program.
 #[derive(Debug, Clone, Copy, PartialEq, Eq)]
@@ -153,7 +155,8 @@ impl<'a> CommandLine<'a> {
     /// What is wrong with the word before these.
     fn fault_of_word(self, word: Word<'a>) -> Option<Wrong<'a>>
         ensures { option_map wrong_view result
-            ≡ spec.word_fault (options_view self.entry.options) (word_view word.entry) (line_view self.entry) }
+            ≡ spec.word_fault (options_view self.entry.options) (word_view word.entry)
+            (line_view self.entry) }
     {
         match word {
             Word::Alone(option) => unknown(option, self.options.alone),
@@ -165,7 +168,8 @@ impl<'a> CommandLine<'a> {
 
     /// An option that has a word before these.
     fn second(self, option: &'a str) -> Option<Wrong<'a>>
-        ensures { option_map wrong_view result ≡ (if is_some (spec.value_of option.now (line_view self.entry))
+        ensures { option_map wrong_view result
+            ≡ (if is_some (spec.value_of option.now (line_view self.entry))
             then Some (spec.twice option.now) else None) }
     {
         match self.value(option) {
@@ -190,12 +194,14 @@ impl<'a> CommandLine<'a> {
     }
 
     /// The first of these words, none of which is after `--`, and the line after it.
-    #[tactic(auto, using(crate::proofs::FirstWord::first_named, crate::proofs::FirstWord::first_last, crate::proofs::FirstWord::first_alone, crate::proofs::FirstWord::first_other))]
+    #[tactic(auto, using(crate::proofs::FirstWord::first_words))]
     fn first_of(self, first: &'a str, rest: &'a [String]) -> Option<(Word<'a>, CommandLine<'a>)>
         requires { self.is_plain ≡ false }
         ensures words { MatchOption result
-            (spec.words_by (options_view self.entry.options) spec.any (first.now ∷ map string_bytes rest.now) ≡ [])
-            (λ r. spec.words_by (options_view self.entry.options) spec.any (first.now ∷ map string_bytes rest.now)
+            (spec.words_by (options_view self.entry.options) spec.any
+            (first.now ∷ map string_bytes rest.now) ≡ [])
+            (λ r. spec.words_by (options_view self.entry.options) spec.any
+            (first.now ∷ map string_bytes rest.now)
             ≡ word_view r.0 ∷ line_view r.1) }
         ensures options { IfSome result (λ r. r.1.options ≡ self.entry.options) }
         ensures fewer { IfSome result (λ r. length r.1.words.now ≤ length rest.now) }
@@ -232,8 +238,10 @@ impl<'a> CommandLine<'a> {
     /// The first of the words after `--`.
     fn plain(self, words: &'a [String]) -> Option<(Word<'a>, CommandLine<'a>)>
         ensures words { MatchOption result
-            (spec.words_by (options_view self.entry.options) spec.plain (map string_bytes words.now) ≡ [])
-            (λ r. spec.words_by (options_view self.entry.options) spec.plain (map string_bytes words.now)
+            (spec.words_by (options_view self.entry.options) spec.plain
+            (map string_bytes words.now) ≡ [])
+            (λ r. spec.words_by (options_view self.entry.options) spec.plain
+            (map string_bytes words.now)
             ≡ word_view r.0 ∷ line_view r.1) }
         ensures options { IfSome result (λ r. r.1.options ≡ self.entry.options) }
         ensures fewer { IfSome result (λ r. length r.1.words.now < length words.now) }

@@ -1,5 +1,6 @@
 //! The arguments of `cose-ask --cwt`.
-ghost use Rattle.std.specs.Prelude.{◌≡◌, ◌<◌, ◌^◌, [], None, Some, Ok, Err, IfOk, IfSome, map, option_map};
+ghost use Rattle.std.specs.Prelude.{◌≡◌, ◌<◌, ◌^◌, [], None, Some, Ok, Err, IfOk, IfSome, map};
+ghost use Rattle.std.specs.Prelude.{option_map};
 ghost use Rattle.std.specs.Prelude.{MatchResult, option_copied, string_bytes, unwrap_or};
 ghost use Rattle.coset_labels.specs.View.{label_view};
 ghost use Rattle.cose_rules.specs.TokenView.{receiver_of, terms_view};

@@ -1,6 +1,6 @@
-//! `cose-pass [--digests] [--strict] ACCEPTED [AADHEX]`, or with `--accepted ACCEPTED [--aad AADHEX]
-//! [FILE]`: reads a CBOR sequence from FILE or standard input, and writes the messages all of whose
-//! signatures were accepted to standard output. ACCEPTED is a file with the accepted records, or
+//! `cose-pass [--digests] [--strict] ACCEPTED [AADHEX]`, or with `--accepted ACCEPTED
+//! [--aad AADHEX] [FILE]`: reads a CBOR sequence from FILE or standard input, and writes the
+//! messages all of whose signatures were accepted to standard output. ACCEPTED is a file with the accepted records, or
 //! digests, AADHEX the external data in hex.
 #![tactic(auto)]
 

@@ -68,7 +68,8 @@ pub record IsAnsweredMessage (allows : Question → Bool) (aad : List ℕ) (answ
   pub is_answer : answer ≡ is_none (first_no allows (questions message aad))
 
 -- the bytes begin with such a message, and Q holds of what is after it
-abbrev pub BeginsWithMessage : (Question → Bool) → List ℕ → Bool → Option (List ℕ) → (List ℕ → Type 0)
+abbrev pub BeginsWithMessage : (Question → Bool) → List ℕ → Bool → Option (List ℕ)
+    → (List ℕ → Type 0)
     → Type 0
 BeginsWithMessage allows aad answer left Q =
     (payload front : List ℕ) × IsAnsweredMessage allows aad answer payload front
@@ -85,8 +86,10 @@ IsWhy refusal.Judged why = ⊥
 IsWhy refusal.ExtraneousData why = ⊥
 
 abbrev pub IsRefusedFor : (Question → Bool) → List ℕ → Option (List ℕ) → StreamRefusal → Type 0
-IsRefusedFor allows aad left refusal.Judged = BeginsWithMessage allows aad false left (λ rest. Unit {0})
-IsRefusedFor allows aad left refusal.ExtraneousData = BeginsWithMessage allows aad true left (λ rest. rest ≢ [])
+IsRefusedFor allows aad left refusal.Judged =
+    BeginsWithMessage allows aad false left (λ rest. Unit {0})
+IsRefusedFor allows aad left refusal.ExtraneousData =
+    BeginsWithMessage allows aad true left (λ rest. rest ≢ [])
 IsRefusedFor allows aad left why =
     IfKnown left (λ b. (w : Why) × IsWhy why w × UnstreamedBy usual (length b) b w)
 
@@ -101,7 +104,8 @@ IfWhole why P = Unit {0}
 -- is yes, and its payload was written and is not held back; or what is said of the input is true,
 -- and nothing was written but a beginning of the payload; the output hasn't failed if the judge was
 -- heard. If it failed, the last call may have been a flush, which changes nothing that was written.
-abbrev pub StreamEnds : {W F : Type 0} → (Question → Bool) → List ℕ → Option (List ℕ) → Writing W F → W → W → Result (Unit {0}) StreamStop → Type 0
+abbrev pub StreamEnds : {W F : Type 0} → (Question → Bool) → List ℕ → Option (List ℕ)
+    → Writing W F → W → W → Result (Unit {0}) StreamStop → Type 0
 StreamEnds allows aad left w out out' (Ok u) =
     (payload front : List ℕ) × IsAnsweredMessage allows aad true payload front
     × IfKnown left (λ b. b ≡ front)
