@@ -41,7 +41,7 @@ extern "C" {
 enum cose_gate_status {
   COSE_GATE_ALL_PASSED = 0,   /* no item was refused */
   COSE_GATE_SOME_REFUSED = 1, /* some were; what passed is written */
-  COSE_GATE_LIMITS = 2,       /* `nesting` or `layers` is out of range; nothing was read */
+  COSE_GATE_LIMITS = 2,       /* `nesting` or `layers` is out of range, or a string of `token` isn't UTF-8; nothing was read */
   COSE_GATE_KEYS = 3,         /* the bytes are not a key set, or neither records nor digests; nothing was read */
   COSE_GATE_STOPPED = 4,      /* an item can't be read, or memory ran out. What passed before is written; nothing if memory ran out for the
                                  output, the keys or the records */
@@ -69,6 +69,12 @@ COSE_GATE_ASSERT(offsetof(cose_gate_answer, status) == 0, "status");
 COSE_GATE_ASSERT(offsetof(cose_gate_answer, length) == 8, "length");
 COSE_GATE_ASSERT(offsetof(cose_gate_answer, lines) == 16, "lines");
 COSE_GATE_ASSERT(sizeof(cose_gate_answer) == 24, "cose_gate_answer");
+
+/* Bytes in a buffer. */
+typedef struct cose_gate_text {
+  const uint8_t *at;
+  size_t length;
+} cose_gate_text;
 
 /* Runs cose-gate over memory. `keys` is an encoded COSE_KeySet (RFC 9052, section 7), `aad` the external_aad, and `input` a CBOR sequence.
  * The messages that pass are written to the front of `out`, one after another, each in canonical encoding: shortest heads, definite lengths,
@@ -121,8 +127,17 @@ cose_gate_answer cose_gate_pass(const uint8_t *accepted, size_t accepted_length,
  * every signature is good that the rules allow. The statuses are those of cose_gate_check; with COSE_GATE_STOPPED the blocks are those of the
  * items before the place where the run stopped, and none if memory ran out for the blocks. They are linear in the input.
  *
- * cose_gate_key_parts writes the parts of all keys of a set: cose_gate_key_at shows those of the key at a place. COSE_GATE_ALL_PASSED: they are
- * written. COSE_GATE_KEYS: the bytes are not a key set. COSE_GATE_STOPPED: memory ran out. COSE_GATE_NO_ROOM: as above.
+ * cose_gate_ask_tokens does the same of items that have to be tokens (CWT, RFC 8392), as `cose-ask --keys --cwt` does: an item whose claims
+ * don't pass by `token` has no signatures to verify, its verdict is `refused: Claims`, and `why` has the first reason. Statuses and `lines`
+ * don't go by the claims; cose_gate_pass_digests passes no item that has no digest.
+ *
+ * cose_gate_key_parts writes the parts of all keys of a set: cose_gate_key_at shows those of the key at a place. Of each key it writes the
+ * length of what follows, in eight bytes, the lowest first; the numbers of its type, its algorithm and its curve in eight bytes each, in two's
+ * complement, 0 for none and for a name; and three byte strings, each after its length in eight bytes, empty if there is none: n of an RSA key
+ * or k of a symmetric one; x of an OKP or EC2 key or e of an RSA key; and y of an EC2 key. Keys of other types fit no algorithm here, and have
+ * none. A later release may add bytes after these. No private part of a key pair is shown, but k is, which is secret: clear the buffer after
+ * use. COSE_GATE_ALL_PASSED: they are written. COSE_GATE_KEYS: the bytes are not a key set. COSE_GATE_STOPPED: memory ran out.
+ * COSE_GATE_NO_ROOM: as above.
  *
  * cose_gate_pass_digests takes the digests of the questions whose signatures are good, COSE_GATE_DIGEST bytes each, one after another, in any
  * order, and writes the messages all of whose questions are among them. `aad`, the limits and `strict` are those of the call before. That two
@@ -135,6 +150,56 @@ cose_gate_answer cose_gate_ask_ruled(const uint8_t *keys, size_t keys_length,
                                      uint8_t *blocks, size_t blocks_length,
                                      uint8_t *lines, size_t lines_length,
                                      size_t nesting, size_t layers, bool strict);
+
+/* Which tokens pass. cose_gate_token_terms_at has the times, and asks for nothing else: then a token with an aud is refused. The pointers are
+ * never NULL, and what is a cose_gate_text is UTF-8. */
+typedef struct cose_gate_token_terms {
+  int64_t earliest;            /* the earliest second since 1970 that it may be: now, less the leeway of clocks. exp has to be after it */
+  int64_t latest;              /* the latest: now, and the leeway. nbf must not be after it */
+  cose_gate_text issuer;       /* what iss has to be, if `has_issuer` */
+  cose_gate_text audience;     /* what aud has to be or to have, if `has_audience` */
+  const int64_t *needed;       /* the claims that have to be there, by their numbers: 4 is exp */
+  size_t needed_length;
+  const cose_gate_text *named; /* and those that have names */
+  size_t named_length;
+  bool has_issuer;
+  bool has_audience;
+  bool any_audience;           /* if not `has_audience`: aud isn't looked at. Else a token with an aud is refused */
+} cose_gate_token_terms;
+
+COSE_GATE_ASSERT(offsetof(cose_gate_token_terms, earliest) == 0, "earliest");
+COSE_GATE_ASSERT(offsetof(cose_gate_token_terms, latest) == 8, "latest");
+COSE_GATE_ASSERT(offsetof(cose_gate_token_terms, issuer) == 16, "issuer");
+COSE_GATE_ASSERT(offsetof(cose_gate_token_terms, audience) == 32, "audience");
+COSE_GATE_ASSERT(offsetof(cose_gate_token_terms, needed) == 48, "needed");
+COSE_GATE_ASSERT(offsetof(cose_gate_token_terms, named) == 64, "named");
+COSE_GATE_ASSERT(offsetof(cose_gate_token_terms, has_issuer) == 80, "has_issuer");
+COSE_GATE_ASSERT(offsetof(cose_gate_token_terms, has_audience) == 81, "has_audience");
+COSE_GATE_ASSERT(offsetof(cose_gate_token_terms, any_audience) == 82, "any_audience");
+COSE_GATE_ASSERT(sizeof(cose_gate_token_terms) == 88, "cose_gate_token_terms");
+
+cose_gate_answer cose_gate_ask_tokens(const uint8_t *keys, size_t keys_length,
+                                      const cose_gate_token_terms *token,
+                                      const uint8_t *aad, size_t aad_length,
+                                      const uint8_t *input, size_t input_length,
+                                      uint8_t *blocks, size_t blocks_length,
+                                      uint8_t *lines, size_t lines_length,
+                                      size_t nesting, size_t layers, bool strict);
+
+/* The terms at a second since 1970, if clocks may differ by so many seconds: `time(NULL)` and 60, say. */
+static inline cose_gate_token_terms cose_gate_token_terms_at(int64_t now, int64_t leeway) {
+  static const int64_t none = 0;
+  static const cose_gate_text no_text = {(const uint8_t *)"", 0};
+  cose_gate_token_terms terms;
+  terms.earliest = now - leeway;
+  terms.latest = now + leeway;
+  terms.issuer = terms.audience = no_text;
+  terms.needed = &none;
+  terms.named = &no_text;
+  terms.needed_length = terms.named_length = 0;
+  terms.has_issuer = terms.has_audience = terms.any_audience = false;
+  return terms;
+}
 
 cose_gate_answer cose_gate_pass_digests(const uint8_t *accepted, size_t accepted_length,
                                         const uint8_t *aad, size_t aad_length,
@@ -238,12 +303,6 @@ static inline const char *cose_gate_fault_text(uint32_t fault) {
   return fault < sizeof texts / sizeof texts[0] ? texts[fault] : "unknown fault";
 }
 
-/* Bytes in a record. */
-typedef struct cose_gate_text {
-  const uint8_t *at;
-  size_t length;
-} cose_gate_text;
-
 /* A question, as its record shows it. `record` is what is copied to accept it. */
 typedef struct cose_gate_question {
   cose_gate_text record;
@@ -340,8 +399,12 @@ typedef struct cose_gate_signature {
   const uint8_t *digest;     /* COSE_GATE_DIGEST bytes, for cose_gate_pass_digests if it is good */
 } cose_gate_signature;
 
-/* The parts of a key, as big-endian byte strings; empty if the key has none. A y that is only a sign isn't shown. */
+/* The parts of a key: numbers of IANA's registries for COSE, 0 for none and for a name, and big-endian byte strings, empty if the key has none.
+ * A y that is only a sign isn't shown. */
 typedef struct cose_gate_key {
+  int64_t type;          /* kty: 1 is OKP, 2 EC2, 3 RSA, 4 symmetric */
+  int64_t algorithm;     /* alg, which the key is for alone */
+  int64_t curve;         /* crv of a key on a curve: 1 is P-256, 6 Ed25519 */
   cose_gate_text n_or_k; /* n of an RSA key, k of a symmetric one */
   cose_gate_text x_or_e; /* x of a key on a curve, e of an RSA key */
   cose_gate_text y;      /* y of a key on a curve of two coordinates (EC2) */
@@ -358,6 +421,16 @@ static inline bool cose_gate_next_number(cose_gate_text *rest, uint64_t *number)
   return true;
 }
 
+/* Takes a number in two's complement off the front of `*rest`. */
+static inline bool cose_gate_next_integer(cose_gate_text *rest, int64_t *integer) {
+  uint64_t number;
+  if (!cose_gate_next_number(rest, &number)) {
+    return false;
+  }
+  *integer = (int64_t)number;
+  return true;
+}
+
 /* Takes the next block off the front of `*rest`, of what cose_gate_ask_ruled wrote; false if there is none. */
 static inline bool cose_gate_next_item(cose_gate_text *rest, cose_gate_item *item) {
   return cose_gate_next_text(rest, &item->signatures) && cose_gate_next_number(&item->signatures, &item->number) &&
@@ -369,14 +442,13 @@ static inline bool cose_gate_next_item(cose_gate_text *rest, cose_gate_item *ite
 /* Takes the next question off an item; false if there is none. */
 static inline bool cose_gate_next_signature(cose_gate_item *item, cose_gate_signature *one) {
   cose_gate_text rest;
-  uint64_t algorithm, front, back;
-  if (!cose_gate_next_text(&item->signatures, &rest) || !cose_gate_next_number(&rest, &one->kind) || !cose_gate_next_number(&rest, &algorithm) ||
+  uint64_t front, back;
+  if (!cose_gate_next_text(&item->signatures, &rest) || !cose_gate_next_number(&rest, &one->kind) || !cose_gate_next_integer(&rest, &one->algorithm) ||
       !cose_gate_next_text(&rest, &one->keys) || !cose_gate_next_number(&rest, &front) || !cose_gate_next_number(&rest, &back) ||
       !cose_gate_next_text(&rest, &one->covered[1]) || !cose_gate_next_text(&rest, &one->signature) || rest.length != COSE_GATE_DIGEST ||
       front > item->base.length || back > item->base.length) {
     return false;
   }
-  one->algorithm = (int64_t)algorithm;
   one->covered[0].at = item->base.at;
   one->covered[0].length = (size_t)front;
   one->covered[2].at = item->base.at + back;
@@ -385,10 +457,18 @@ static inline bool cose_gate_next_signature(cose_gate_item *item, cose_gate_sign
   return true;
 }
 
-/* The key at this place in KEYS, of the parts that cose_gate_key_parts wrote; false if there is none. */
+/* Takes the parts of the next key off the front of `*rest`, of what cose_gate_key_parts wrote; false if there is none. */
+static inline bool cose_gate_next_key(cose_gate_text *rest, cose_gate_key *key) {
+  cose_gate_text parts;
+  return cose_gate_next_text(rest, &parts) && cose_gate_next_integer(&parts, &key->type) && cose_gate_next_integer(&parts, &key->algorithm) &&
+         cose_gate_next_integer(&parts, &key->curve) && cose_gate_next_text(&parts, &key->n_or_k) &&
+         cose_gate_next_text(&parts, &key->x_or_e) && cose_gate_next_text(&parts, &key->y);
+}
+
+/* The key at this place in KEYS; false if there is none. */
 static inline bool cose_gate_key_at(cose_gate_text parts, uint64_t place, cose_gate_key *key) {
   do {
-    if (!cose_gate_next_text(&parts, &key->n_or_k) || !cose_gate_next_text(&parts, &key->x_or_e) || !cose_gate_next_text(&parts, &key->y)) {
+    if (!cose_gate_next_key(&parts, key)) {
       return false;
     }
   } while (place-- > 0);

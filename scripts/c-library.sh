@@ -160,11 +160,12 @@ if wants python && has gcc; then
   fi
 fi
 
-# What es256 passes of a file under a key set, to $made/es256.out, if status and lines are those that are due.
+# What es256 passes of a file under a key set, to $made/es256.out, if status and lines are those that are due; more arguments come first.
 es256() {
   local status=0
-  "$made/es256_c" "$1" "$2" > "$made/es256.out" 2> "$made/es256.err" || status=$?
-  [ "$status $(sed 's/ at [0-9]*//' "$made/es256.err" | paste -sd '|')" = "$3" ] || fails "es256 on ${2##*/}: $status, $(cat "$made/es256.err")"
+  "$made/es256_c" "${@:4}" "$1" "$2" > "$made/es256.out" 2> "$made/es256.err" || status=$?
+  [ "$status $(sed 's/ at [0-9]*//' "$made/es256.err" | paste -sd '|')" = "$3" ] ||
+    fails "es256 ${*:4} on ${2##*/}: $status, $(cat "$made/es256.err")"
 }
 if wants es256; then
   if has gcc && has python3 && printf '#include <openssl/param_build.h>\n' | gcc -E - > /dev/null 2>&1 && /usr/bin/python3 -c 'import cryptography' 2> /dev/null; then
@@ -184,6 +185,12 @@ if wants es256; then
     printf hello | "$top/tools/cose-make" --key "$signed/second.cbor" --payload - > "$signed/hello.cbor"
     es256 "$signed/both.cbor" "$signed/hello.cbor" "0 item 1: passed|passed 1, refused 0"
     es256 "$signed/signed.cbor" "$signed/hello.cbor" "3 no key set, records or digests"
+    "$top/tools/cose-make" --key "$signed/second.cbor" --cwt '{"exp": 2000, "aud": "door"}' > "$signed/token.cbor"
+    es256 "$signed/both.cbor" "$signed/token.cbor" "0 item 1: passed|passed 1, refused 0" --cwt 1999 door
+    for it in "2000 door" "1999 gate" 1999; do
+      es256 "$signed/both.cbor" "$signed/token.cbor" "1 item 1: $no|passed 0, refused 1" --cwt $it
+    done
+    es256 "$signed/both.cbor" "$signed/hello.cbor" "1 item 1: $no|passed 0, refused 1" --cwt 1999
     echo "c-library.sh: es256 passes what is well signed, and nothing else"
   else
     lacks "gcc, libcrypto's headers, python3 or python3-cryptography" "the example es256"

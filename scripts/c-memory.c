@@ -74,6 +74,17 @@ static cose_gate_answer call(int which, bytes given, bytes input, bytes out, byt
     case 4:
       return cose_gate_pass_digests(given.at, given.length, aad, 1, input.at, input.length, out.at, out.length, lines.at, lines.length,
                                     COSE_GATE_NESTING, COSE_GATE_LAYERS, false);
+    case 5: {
+      cose_gate_token_terms terms = cose_gate_token_terms_at(1443944944, 60);
+      static const int64_t needed[] = {4, 6};
+      static const cose_gate_text named[] = {{(const uint8_t *)"scope", 5}};
+      terms.needed = needed;
+      terms.needed_length = 2;
+      terms.named = named;
+      terms.named_length = 1;
+      return cose_gate_ask_tokens(given.at, given.length, &terms, aad, 1, input.at, input.length, out.at, out.length, lines.at, lines.length,
+                                  COSE_GATE_NESTING, COSE_GATE_LAYERS, false);
+    }
     default:
       return cose_gate_key_parts(given.at, given.length, out.at, out.length);
   }
@@ -174,6 +185,10 @@ static size_t each_call(bytes input, bool all) {
   size_t count = count_of(records);
   bytes blocks = each_room(3, keys, input, all), digests = digests_of(blocks), ruled = each_room(4, digests, input, all);
   assert(ruled.length <= accepted.length && (digests.length == 0) == (ruled.length == 0));
+  bytes tokens = each_room(5, keys, input, all), none_passes = digests_of(tokens);
+  assert(none_passes.length == 0 && (tokens.length == 0) == (blocks.length == 0));
+  free(tokens.at);
+  free(none_passes.at);
   free(blocks.at);
   free(digests.at);
   free(ruled.at);
@@ -308,7 +323,7 @@ static void each_refused_asked(bytes input) {
 static void each_refused(int which, bytes given, bytes input) {
   static uint8_t room[65536], text[4096], whole[4096];
   static const char *const names[] = {"cose_gate_check", "cose_gate_ask", "cose_gate_pass", "cose_gate_ask_ruled",
-                                      "cose_gate_pass_digests"}, said[] = "stopped: memory\n";
+                                      "cose_gate_pass_digests", "cose_gate_ask_tokens"}, said[] = "stopped: memory\n";
   bytes out = {room, sizeof room}, lines = {text, sizeof text};
   is_watched = 1;
   calls = 0;
@@ -343,11 +358,12 @@ int main(int count, char **words) {
   assert(count >= 3);
   keys = read_file(words[1]);
   size_t questions = 0;
-  bytes nothing = {keys.at, 0}, parts = each_room(5, keys, nothing, true);
+  bytes nothing = {keys.at, 0}, parts = each_room(6, keys, nothing, true);
   cose_gate_key key;
   cose_gate_text all = {parts.at, parts.length};
   assert(cose_gate_key_at(all, 0, &key) && key.n_or_k.length == 32 && key.x_or_e.length == 0 && key.y.length == 0);
-  assert(cose_gate_key_at(all, 1, &key) && key.n_or_k.length == 1 && !cose_gate_key_at(all, 2, &key));
+  assert(key.type == 4 && key.algorithm == 5 && key.curve == 0);
+  assert(cose_gate_key_at(all, 1, &key) && key.n_or_k.length == 1 && key.algorithm == 0 && !cose_gate_key_at(all, 2, &key));
   free(parts.at);
   for (int i = 2; i < count; i++) {
     bytes input = read_file(words[i]);
@@ -367,6 +383,7 @@ int main(int count, char **words) {
   bytes blocks = exactly(3, keys, input, &lines, &status), digests = digests_of(blocks);
   each_refused(3, keys, input);
   each_refused(4, digests, input);
+  each_refused(5, keys, input);
   free(blocks.at);
   free(digests.at);
   each_refused_in_place(input);

@@ -1,6 +1,6 @@
 /* c-stack.c: KEYS NESTING LAYERS FILE..: the stack that each call of the library takes over each file, in a thread whose stack is filled with a
- * pattern before; a thread's start is among it. A line for each file: its bytes for cose_gate_check, for cose_gate_ask or cose_gate_ask_ruled,
- * for cose_gate_pass with the records that cose_gate_ask gave or cose_gate_pass_digests, and for cose_gate_stream_check or
+ * pattern before; a thread's start is among it. A line for each file: its bytes for cose_gate_check, for cose_gate_ask, cose_gate_ask_ruled or
+ * cose_gate_ask_tokens, for cose_gate_pass with the records that cose_gate_ask gave or cose_gate_pass_digests, and for cose_gate_stream_check or
  * cose_gate_stream_ask, whichever takes more; and what the program would say of its first message. */
 #define _GNU_SOURCE
 #include "cose_gate.h"
@@ -54,6 +54,12 @@ static void *on_stack(void *unused) {
       answer = cose_gate_ask_ruled(keys.at, keys.length, keys.at, 0, input.at, input.length, to->at, MOST, lines.at, MOST, nesting, layers,
                                    false);
       break;
+    case 7: {
+      cose_gate_token_terms token = cose_gate_token_terms_at(0, 0);
+      answer = cose_gate_ask_tokens(keys.at, keys.length, &token, keys.at, 0, input.at, input.length, to->at, MOST, lines.at, MOST, nesting,
+                                    layers, false);
+      break;
+    }
     case 6: /* any digests */
       answer = cose_gate_pass_digests(records.at, records.length / COSE_GATE_DIGEST * COSE_GATE_DIGEST, keys.at, 0, input.at, input.length,
                                       to->at, MOST, lines.at, MOST, nesting, layers, false);
@@ -99,7 +105,7 @@ int main(int count, char **words) {
     char line[64] = {0};
     size_t length = strcspn((char *)lines.at, "\n");
     memcpy(line, lines.at, length < 63 ? length : 63);
-    size_t ask = larger(stack_of(1), stack_of(5)), pass = larger(stack_of(2), stack_of(6));
+    size_t ask = larger(larger(stack_of(1), stack_of(5)), stack_of(7)), pass = larger(stack_of(2), stack_of(6));
     printf("%zu %zu %zu %zu %s\n", check, ask, pass, larger(stack_of(3), stack_of(4)), line);
   }
   return 0;

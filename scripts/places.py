@@ -73,7 +73,7 @@ def limits():
 def abi():
     """The header declares what a call returns, and its parameters, as the library exports them, in the same order."""
     header = "include/cose_gate.h"
-    c_types = {"u32": "uint32_t", "usize": "size_t", "bool": "bool"}
+    c_types = {"u32": "uint32_t", "usize": "size_t", "bool": "bool", "&TokenChoice<'_>": "const cose_gate_token_terms *"}
 
     def fields_of(exported, file, declared):
         """The names of the fields of a struct, which the header declares with the same types."""
@@ -85,6 +85,12 @@ def abi():
 
     fields_of("StreamAnswer", "crates/cose_gate_c/src/streaming.rt", "cose_gate_stream_answer")
     fields_of("StreamQuestion", "crates/cose_gate_c/src/stream_asking.rt", "cose_gate_stream_question")
+    lent = {"&'a [u8]": "cose_gate_text {}", "&'a [i64]": "const int64_t *{0}; size_t {0}_length",
+            "&'a [Text<'a>]": "const cose_gate_text *{0}; size_t {0}_length", "i64": "int64_t {}", "bool": "bool {}"}
+    choice = re.search(r"pub struct TokenChoice<'a> \{(.*?)\n\}", text("crates/cose_gate_c/src/tokens.rt"), re.S)[1]
+    said = re.search(r"typedef struct cose_gate_token_terms \{(.*?)\n\}", text(header), re.S)[1]
+    same("the fields of cose_gate_token_terms are", [lent[of].format(name) for name, of in re.findall(r"^    pub (\w+): (.*),$", choice, re.M)],
+         header, re.findall(r"^  (.*?);$", re.sub(r"\s*/\*.*?\*/", "", said).replace(";\n  size_t", "; size_t"), re.M))
     names = fields_of("Answer", "crates/cose_gate_records/src/answer.rt", "cose_gate_answer")
     rust = "examples/rust/src/lib.rs"
     fields = re.search(r"^struct Answer \{(.*?)\n\}", text(rust), re.M | re.S)[1]
@@ -97,14 +103,14 @@ def abi():
         same("the calls are", [name for name, _ in calls], header, found(header, rf"^{declared} (\w+)\("))
         for name, parameters in calls:
             wanted = []
-            for one, of in re.findall(r"(\w+): (&mut \[u8\]|&\[u8\]|usize|bool)(?:,|$)", parameters):
+            for one, of in re.findall(r"(\w+): (&mut \[u8\]|&\[u8\]|&TokenChoice<'_>|usize|bool)(?:,|$)", parameters):
                 if of.endswith("[u8]"):
                     wanted += [("uint8_t *" if "mut" in of else "const uint8_t *", one), ("size_t", f"{one}_length")]
                 else:
                     wanted.append((c_types[of], one))
             call = found(header, rf"^{declared} {name}\((.*?)\);")[0]
             same(f"the arguments of {name} are", wanted, header,
-                 [(of.strip(), one) for of, one in re.findall(r"((?:const )?uint8_t \*|size_t |bool )(\w+)", call)])
+                 [(of.strip(), one) for of, one in re.findall(r"((?:const )?uint8_t \*|const cose_gate_token_terms \*|size_t |bool )(\w+)", call)])
 
 
 def versions():

@@ -1,6 +1,7 @@
-/* es256 KEYS INPUT > PASSED: the messages of INPUT whose signatures are good with ES256 under a key of KEYS, a COSE_KeySet. The library finds
- * the key and the covered bytes, and refuses what the rules for headers and keys refuse; OpenSSL's libcrypto verifies. Both files are sealed
- * copies (sealed.h). The status is that of the library. Build and run: `bash scripts/c-library.sh es256`. */
+/* es256 [--cwt SECONDS [AUD]] KEYS INPUT > PASSED: the messages of INPUT whose signatures are good with ES256 under a key of KEYS, a COSE_KeySet.
+ * The library finds the key and the covered bytes, and refuses what the rules for headers and keys refuse; OpenSSL's libcrypto verifies. With
+ * --cwt only tokens whose claims pass at this second since 1970, if they name an audience for AUD. Both files are sealed copies (sealed.h). The
+ * status is that of the library. Build and run: `bash scripts/c-library.sh es256`. */
 #define _GNU_SOURCE
 #include "cose_gate.h"
 #include "sealed.h"
@@ -12,16 +13,16 @@
 #include <stdlib.h>
 #include <string.h>
 
-enum { ES256 = -7, HALF = 32 };
+enum { ES256 = -7, EC2 = 2, P256 = 1, HALF = 32 };
 
-/* The public key on P-256 of these coordinates; NULL if there is none. */
-static EVP_PKEY *p256(cose_gate_text x, cose_gate_text y) {
+/* The public key on P-256 of these parts; NULL if there is none. */
+static EVP_PKEY *p256(const cose_gate_key *it) {
   uint8_t point[1 + 2 * HALF] = {4};
-  if (x.length != HALF || y.length != HALF) {
+  if (it->type != EC2 || it->curve != P256 || it->x_or_e.length != HALF || it->y.length != HALF) {
     return NULL;
   }
-  memcpy(point + 1, x.at, HALF);
-  memcpy(point + 1 + HALF, y.at, HALF);
+  memcpy(point + 1, it->x_or_e.at, HALF);
+  memcpy(point + 1 + HALF, it->y.at, HALF);
   char curve[] = "P-256";
   OSSL_PARAM parts[] = {OSSL_PARAM_construct_utf8_string("group", curve, 0), OSSL_PARAM_construct_octet_string("pub", point, sizeof point),
                         OSSL_PARAM_construct_end()};
@@ -56,7 +57,7 @@ static int der_of(cose_gate_text signature, uint8_t **der) {
 static bool verify(const cose_gate_signature *one, const cose_gate_key *parts) {
   uint8_t *der = NULL;
   int length = der_of(one->signature, &der);
-  EVP_PKEY *key = p256(parts->x_or_e, parts->y);
+  EVP_PKEY *key = p256(parts);
   EVP_MD_CTX *context = EVP_MD_CTX_new();
   bool is_good = length > 0 && key != NULL && context != NULL && EVP_DigestVerifyInit(context, NULL, EVP_sha256(), NULL, key) == 1;
   for (int i = 0; is_good && i < 3; i++) {
@@ -108,11 +109,18 @@ enum call { KEY_PARTS, ASK, PASS };
 
 static uint8_t lines[1 << 16];
 
+/* Which tokens pass; NULL if the messages may be others. */
+static const cose_gate_token_terms *token;
+
 static cose_gate_answer call(enum call which, bytes keys, bytes input, uint8_t *out, size_t room) {
   switch (which) {
     case KEY_PARTS:
       return cose_gate_key_parts(keys.at, keys.length, out, room);
     case ASK:
+      if (token != NULL) {
+        return cose_gate_ask_tokens(keys.at, keys.length, token, COSE_GATE_NOTHING, input.at, input.length, out, room, lines, sizeof lines,
+                                    COSE_GATE_NESTING, COSE_GATE_LAYERS, false);
+      }
       return cose_gate_ask_ruled(keys.at, keys.length, COSE_GATE_NOTHING, input.at, input.length, out, room, lines, sizeof lines,
                                  COSE_GATE_NESTING, COSE_GATE_LAYERS, false);
     default:
@@ -144,8 +152,22 @@ static cose_gate_text written(output made) {
 }
 
 int main(int count, char **words) {
+  cose_gate_token_terms terms;
+  if (count > 4 && strcmp(words[1], "--cwt") == 0) {
+    terms = cose_gate_token_terms_at(strtoll(words[2], NULL, 10), 0);
+    token = &terms;
+    count -= 2;
+    words += 2;
+    if (count == 4) {
+      terms.audience.at = (const uint8_t *)words[1];
+      terms.audience.length = strlen(words[1]);
+      terms.has_audience = true;
+      count--;
+      words++;
+    }
+  }
   if (count != 3) {
-    fprintf(stderr, "usage: es256 KEYS INPUT > PASSED\n");
+    fprintf(stderr, "usage: es256 [--cwt SECONDS [AUD]] KEYS INPUT > PASSED\n");
     return COSE_GATE_LIMITS;
   }
   bytes keys = sealed_copy(words[1]), input = sealed_copy(words[2]);

@@ -53,6 +53,24 @@ func ExampleAskRuled() {
 	// <nil>
 }
 
+func ExampleAskTokens() {
+	items, err := cosegate.AskTokens(read("keys.cbor"), cosegate.Terms{Now: 0, Named: []string{"scope"}}, []byte{1}, read("one.cbor"), false)
+	fmt.Println(items[0].Verdict+":", items[0].Why, err)
+	_, err = cosegate.AskTokens(read("keys.cbor"), cosegate.Terms{Named: []string{"\xff"}}, []byte{1}, read("one.cbor"), false)
+	fmt.Println(err)
+	// Output:
+	// refused: Claims: the payload is not a map <nil>
+	// the limits are out of range, or a string isn't UTF-8
+}
+
+func ExamplePassTokens() {
+	audience := "door"
+	terms := cosegate.Terms{Now: 1443944944, Leeway: 60, Audience: &audience, Needed: []int64{4}}
+	checked, err := cosegate.PassTokens(read("keys.cbor"), terms, []byte{1}, read("mixed.cbor"), false, isGood)
+	fmt.Println(len(checked.Passed), checked.SomeRefused, err)
+	// Output: 0 true <nil>
+}
+
 func ExampleStreamCheck() {
 	payload, err := cosegate.StreamCheck(read("keys.cbor"), []byte{1}, read("one.cbor"))
 	fmt.Println(string(payload), err)
@@ -96,7 +114,7 @@ func TestSame(t *testing.T) {
 
 func TestKeyParts(t *testing.T) {
 	keys, err := cosegate.KeyParts(read("keys.cbor"))
-	if err != nil || len(keys) != 2 || len(keys[0].NOrK) != 32 || len(keys[1].NOrK) != 1 || len(keys[0].XOrE) != 0 {
+	if err != nil || len(keys) != 2 || keys[0].Type != 4 || keys[0].Algorithm != 5 || keys[0].Curve != 0 || len(keys[0].NOrK) != 32 {
 		t.Fatal(keys, err)
 	}
 }

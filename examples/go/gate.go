@@ -1,9 +1,11 @@
 // Package cosegate lets through the COSE messages of a CBOR sequence that are good, by the library for C (include/cose_gate.h), which pkg-config
 // finds where `scripts/install.sh --library` put it. Check checks MACs. PassSigned is for signatures: the library goes by the rules for headers
-// and keys, and the caller says whether a signature is good under a key. Nobody may write to a slice during a call.
+// and keys, and the caller says whether a signature is good under a key. PassTokens is that for tokens. Nobody may write to a slice during a
+// call.
 package cosegate
 
 // #cgo pkg-config: cose_gate
+// #include <stdlib.h>
 // #include "cose_gate.h"
 import "C"
 
@@ -16,8 +18,8 @@ import (
 
 // Why the gate didn't go through an input.
 var (
-	// ErrLimits: the limits are out of range.
-	ErrLimits = errors.New("the limits are out of range")
+	// ErrLimits: the limits are out of range, or a string of Terms isn't UTF-8.
+	ErrLimits = errors.New("the limits are out of range, or a string isn't UTF-8")
 	// ErrKeys: the bytes are no key set, or neither records nor digests.
 	ErrKeys = errors.New("the bytes are no key set, or neither records nor digests")
 	// ErrStopped: the input is no CBOR from some place on, or memory ran out. What was written before is returned beside it.
@@ -66,11 +68,24 @@ type Item struct {
 	Signatures                 []Signature
 }
 
-// Key is the parts of a key, empty if it has none.
+// Key is the parts of a key: numbers of IANA's registries for COSE, 0 for none, and byte strings, empty if it has none.
 type Key struct {
-	NOrK []byte // n of an RSA key, k of a symmetric one
-	XOrE []byte // x of a key on a curve, e of an RSA key
-	Y    []byte
+	Type      int64 // 1 is OKP, 2 EC2, 3 RSA, 4 symmetric
+	Algorithm int64
+	Curve     int64 // 1 is P-256, 6 Ed25519
+	NOrK      []byte
+	XOrE      []byte
+	Y         []byte
+}
+
+// Terms says which tokens pass (RFC 8392).
+type Terms struct {
+	Now, Leeway int64    // seconds since 1970, and by how many clocks may differ
+	Issuer      *string  // what iss has to be, if not nil
+	Audience    *string  // what aud has to be or to have; if nil, a token with an aud is refused
+	AnyAudience bool     // aud isn't looked at, if Audience is nil
+	Needed      []int64  // claims that have to be there, by their numbers
+	Named       []string // and by their names
 }
 
 // first is a pointer to the first byte, and never nil.
@@ -156,6 +171,17 @@ func AskRuled(keys, aad, input []byte, strict bool) ([]Item, error) {
 	return items(told.Passed), err
 }
 
+// AskTokens tells what to verify of each token of a sequence whose claims pass, and of another item why it has nothing to verify.
+func AskTokens(keys []byte, terms Terms, aad, input []byte, strict bool) ([]Item, error) {
+	token, release := termsOf(terms)
+	defer release()
+	told, err := run(len(input), func(out, lines []byte) C.cose_gate_answer {
+		return C.cose_gate_ask_tokens(first(keys), size(keys), token, first(aad), size(aad), first(input), size(input), first(out), size(out),
+			first(lines), size(lines), C.COSE_GATE_NESTING, C.COSE_GATE_LAYERS, C.bool(strict))
+	})
+	return items(told.Passed), err
+}
+
 // PassDigests passes the messages all of whose questions have their digests among these.
 func PassDigests(digests [][]byte, aad, input []byte, strict bool) (Checked, error) {
 	accepted := bytes.Join(digests, nil)
@@ -169,8 +195,20 @@ func PassDigests(digests [][]byte, aad, input []byte, strict bool) (Checked, err
 // that fit.
 func PassSigned(keys, aad, input []byte, strict bool, good func(Signature, Key) bool) (Checked, error) {
 	items, err := AskRuled(keys, aad, input, strict)
-	if err != nil && err != ErrStopped {
-		return Checked{}, err
+	return passGood(items, err, keys, aad, input, strict, good)
+}
+
+// PassTokens does the same of tokens whose claims pass.
+func PassTokens(keys []byte, terms Terms, aad, input []byte, strict bool, good func(Signature, Key) bool) (Checked, error) {
+	items, err := AskTokens(keys, terms, aad, input, strict)
+	return passGood(items, err, keys, aad, input, strict, good)
+}
+
+// passGood passes the messages all of whose questions are among those of the items, and good. With ErrStopped the items are those that come
+// before; if the input ends there, the last call says so too.
+func passGood(items []Item, stopped error, keys, aad, input []byte, strict bool, good func(Signature, Key) bool) (Checked, error) {
+	if stopped != nil && stopped != ErrStopped {
+		return Checked{}, stopped
 	}
 	parts, err := KeyParts(keys)
 	if err != nil {
@@ -187,7 +225,11 @@ func PassSigned(keys, aad, input []byte, strict bool, good func(Signature, Key) 
 			}
 		}
 	}
-	return PassDigests(digests, aad, input, strict)
+	checked, err := PassDigests(digests, aad, input, strict)
+	if err == nil {
+		err = stopped // memory ran out for the blocks
+	}
+	return checked, err
 }
 
 // KeyParts gives the parts of each key of a set.
@@ -197,7 +239,10 @@ func KeyParts(keys []byte) ([]Key, error) {
 	})
 	var all []Key
 	for rest := told.Passed; len(rest) > 0; {
-		all = append(all, Key{NOrK: framed(&rest), XOrE: framed(&rest), Y: framed(&rest)})
+		parts := framed(&rest)
+		key := Key{Type: int64(number(&parts)), Algorithm: int64(number(&parts)), Curve: int64(number(&parts))}
+		key.NOrK, key.XOrE, key.Y = framed(&parts), framed(&parts), framed(&parts)
+		all = append(all, key)
 	}
 	return all, err
 }
@@ -281,4 +326,41 @@ func signature(rest, base []byte) Signature {
 	one.Signature = framed(&rest)
 	one.Digest = rest
 	return one
+}
+
+// termsOf is the terms in memory of C, and what frees it.
+func termsOf(terms Terms) (*C.cose_gate_token_terms, func()) {
+	var all []unsafe.Pointer
+	kept := func(at unsafe.Pointer) unsafe.Pointer {
+		all = append(all, at)
+		return at
+	}
+	textOf := func(text string) C.cose_gate_text {
+		return C.cose_gate_text{at: (*C.uint8_t)(kept(unsafe.Pointer(C.CString(text)))), length: C.size_t(len(text))}
+	}
+	token := (*C.cose_gate_token_terms)(kept(C.malloc(C.sizeof_cose_gate_token_terms)))
+	*token = C.cose_gate_token_terms_at(C.int64_t(terms.Now), C.int64_t(terms.Leeway))
+	if token.has_issuer = terms.Issuer != nil; terms.Issuer != nil {
+		token.issuer = textOf(*terms.Issuer)
+	}
+	if token.has_audience = terms.Audience != nil; terms.Audience != nil {
+		token.audience = textOf(*terms.Audience)
+	}
+	token.any_audience = C.bool(terms.AnyAudience)
+	if len(terms.Needed) > 0 {
+		token.needed = (*C.int64_t)(kept(C.CBytes(unsafe.Slice((*byte)(unsafe.Pointer(&terms.Needed[0])), 8*len(terms.Needed)))))
+		token.needed_length = C.size_t(len(terms.Needed))
+	}
+	if len(terms.Named) > 0 {
+		token.named = (*C.cose_gate_text)(kept(C.malloc(C.size_t(len(terms.Named)) * C.sizeof_cose_gate_text)))
+		token.named_length = C.size_t(len(terms.Named))
+		for i, name := range terms.Named {
+			unsafe.Slice(token.named, len(terms.Named))[i] = textOf(name)
+		}
+	}
+	return token, func() {
+		for _, at := range all {
+			C.free(at)
+		}
+	}
 }

@@ -1,6 +1,6 @@
-"""Signatures that the caller verifies: COSE_Sign1 with ES256 (RFC 9053, section 2.1), by `ask_ruled` and `pass_digests` of cose_gate, and
-of one message by `verify`. It makes keys and messages with Debian's python3-cbor2 and python3-cryptography, spoils some, and prints what
-passes: es256.py LIBRARY. Build and run: `bash scripts/c-library.sh python`."""
+"""Signatures that the caller verifies: COSE_Sign1 with ES256 (RFC 9053, section 2.1), by `pass_signed` of cose_gate and by its steps, and of
+one message by `verify`, also as a token. It makes keys and messages with Debian's python3-cbor2 and python3-cryptography, spoils some, and
+prints what passes: es256.py LIBRARY. Build and run: `bash scripts/c-library.sh python`."""
 
 import os
 import sys
@@ -11,7 +11,7 @@ from cryptography.hazmat.primitives import hashes
 from cryptography.hazmat.primitives.asymmetric import ec, utils
 
 import cose_gate
-from cose_gate import Gate, Refused
+from cose_gate import Gate, LimitsError, Refused, StoppedError, Terms
 
 ALG, CRIT, KID, ES256, SIGN1 = 1, 2, 4, -7, 18
 KTY, EC2, CRV, P256, X, Y = 1, 2, -1, 1, -2, -3
@@ -42,6 +42,7 @@ def is_good(one, key):
     """Whether a signature is good under a key that fits."""
     if one.algorithm != ES256 or len(one.signature) != 64:
         return False
+    assert (key.type, key.curve) == (EC2, P256)
     r, s, x, y = (int.from_bytes(part, "big") for part in (one.signature[:32], one.signature[32:], key.x_or_e, key.y))
     try:
         public = ec.EllipticCurvePublicNumbers(x, y, ec.SECP256R1()).public_key()
@@ -52,7 +53,8 @@ def is_good(one, key):
 
 
 def main(words):
-    gate = Gate(words[1])
+    os.environ["COSE_GATE_LIBRARY"] = words[1]
+    gate = Gate()
     signer, other = ec.generate_private_key(ec.SECP256R1()), ec.generate_private_key(ec.SECP256R1())
     keys = key_set(k1=signer.public_key(), k2=other.public_key())
     aad = b"today"
@@ -69,6 +71,14 @@ def main(words):
     assert [item.number for item in items] == [1, 2, 3, 4] and len(asked) == 3 and len(accepted) == 1, (items, accepted)
     assert items[3].why == "a critical label is not understood", items[3]
     assert checked.passed == good and checked.some_refused, checked
+    assert gate.pass_signed(keys, aad, input, is_good) == checked
+    assert gate.pass_signed(keys, aad, input, lambda one, key: False).passed == b""
+    try:
+        gate.pass_signed(keys, aad, good + good[:-1], is_good)
+    except StoppedError as fault:
+        assert fault.passed == good, fault
+    else:
+        raise AssertionError("not stopped")
     # A yes to one message is none to the same bytes under another key id, which no signature covers.
     assert gate.pass_digests(accepted, aad, renamed).passed == b""
     assert gate.pass_digests([], aad, input).passed == b""
@@ -83,17 +93,44 @@ def main(words):
         else:
             raise AssertionError("taken: " + why)
 
-    # The same by the package alone.
-    os.environ["COSE_GATE_LIBRARY"] = words[1]
+    by_package(gate, signer, keys, aad, image, spoiled)
+
+
+def by_package(gate, signer, keys, aad, image, spoiled):
+    """The same by the package alone, and of a token that ends at 2000."""
     for lent in (image, bytearray(image), memoryview(image)):
         assert cose_gate.verify(lent, keys, aad) == bytes(1 << 20)
-    for message, why in ((spoiled, "Judged"), (critical, items[3].why), (b"", "Decode"), (image + b"\xff", "ExtraneousData")):
+    claims = cbor2.dumps({3: "door", 4: 2000})
+    token = sign(signer, b"k1", aad, claims)
+    assert cose_gate.verify(token, keys, aad, Terms(1999, audience="door", needed=(3, 4))) == claims
+    faults = {
+        "expired": (token, Terms(2000, audience="door")),
+        "for a receiver, and none is named here": (token, Terms(1999)),
+        "for another receiver": (token, Terms(1999, audience="gate")),
+        "of another issuer": (token, Terms(1999, any_audience=True, issuer="me")),
+        "a claim that is needed is not there": (token, Terms(1999, any_audience=True, needed=("scope",))),
+        "the payload is not one item of CBOR": (sign(signer, b"k1", aad, b"open the door"), Terms(0)),
+        "Judged": (spoiled, None),
+        "Decode": (b"", None),
+        "ExtraneousData": (token + token, Terms(1999, any_audience=True)),
+    }
+    for why, (message, terms) in faults.items():
         try:
-            cose_gate.verify(message, keys, aad)
+            cose_gate.verify(message, keys, aad, terms)
         except Refused as fault:
             assert str(fault) == why, (fault, why)
         else:
             raise AssertionError("taken: " + why)
+
+    # A token passes at its time alone, also among others. Terms that are none are no terms.
+    assert gate.pass_signed(keys, aad, token + image, is_good, token=Terms(1999, audience="door")).passed == token
+    assert gate.pass_signed(keys, aad, token + image, is_good, token=Terms(2000, audience="door")).passed == b""
+    for terms in (Terms(1 << 63), Terms(0, needed=(1 << 64,)), Terms(0, issuer="\ud800"), Terms(0, needed=("\udcc3\udca9",))):
+        try:
+            gate.ask_ruled(keys, aad, token, token=terms)
+        except LimitsError:
+            continue
+        raise AssertionError(terms)
 
 
 if __name__ == "__main__":

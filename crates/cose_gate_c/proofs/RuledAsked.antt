@@ -5,6 +5,7 @@ use Rattle.ciborium_ll.specs.declared.write.Write.{Ghosts as Writes}
 use Rattle.coset_labels.specs.Reading.{HasItem}
 use Rattle.coset_keys.specs.Fields.{KeyFields}
 use Rattle.coset_keys.specs.Keys.{HasKeySet}
+use Rattle.cose_rules.specs.Claims.{TermsFields}
 use Rattle.cose_gate_core.specs.Findings.{Bounds}
 use Rattle.cose_gate_core.specs.GateRun.{Ending, finished, unflushed, unreadable, no_memory, within, result_at}
 use Rattle.cose_gate_core.specs.Outcome.{writer_failures}
@@ -36,11 +37,11 @@ abbrev reader : Option (List ℕ) → ℕ → Devices
 reader left f = record { left = left; written = None; read_failures = 0; write_failures = f }
 
 -- the run with a writer into memory
-pub told_whole : (limits : Bounds) (keys : List KeyFields) (aad : List ℕ) (input : List ℕ) (left : Option (List ℕ)) (f f' status : ℕ) (first text lines : List ℕ) (count : ℕ) (P : List Notice → Type 0) (blocks : List ℕ)
-    (r : RanTold limits (asks keys) aad (reader (Some input) f) (reader left f') status (λ _. Unit {0}) P) → AreBlocks None keys aad r.run.done blocks → first ≡ [] → f ≡ 0 → f' ≡ 0 → (f' ≡ f → text ≡ first ++ blocks)
+pub told_whole : (limits : Bounds) (token : Option TermsFields) (keys : List KeyFields) (aad : List ℕ) (input : List ℕ) (left : Option (List ℕ)) (f f' status : ℕ) (first text lines : List ℕ) (count : ℕ) (P : List Notice → Type 0) (blocks : List ℕ)
+    (r : RanTold limits (asks keys) aad (reader (Some input) f) (reader left f') status (λ _. Unit {0}) P) → AreBlocks token keys aad r.run.done blocks → first ≡ [] → f ≡ 0 → f' ≡ 0 → (f' ≡ f → text ≡ first ++ blocks)
     → ((ns : List Notice) (last : Notice) → P (ns ++ last ∷ []) → AreLinesOf lines count (ns ++ last ∷ []))
-    → TellsBlocks limits keys aad input lines count text status
-told_whole limits keys aad input left f f' status first text lines count P blocks r are begun none well wrote tells =
+    → TellsBlocks limits token keys aad input lines count text status
+told_whole limits token keys aad input left f f' status first text lines count P blocks r are begun none well wrote tells =
     let run = r.run in (
       left,
       record {
@@ -52,7 +53,7 @@ told_whole limits keys aad input left f f' status first text lines count P block
         told = tells _ _ r.told;
         status_is = r.status_is;
       },
-      subst (λ (z : List ℕ). AreBlocks None keys aad run.done z) (sym (wrote (well ∙ sym none) ∙ ap (λ (z : List ℕ). z ++ blocks) begun)) are,
+      subst (λ (z : List ℕ). AreBlocks token keys aad run.done z) (sym (wrote (well ∙ sym none) ∙ ap (λ (z : List ℕ). z ++ blocks) begun)) are,
     )
 
 -- the bytes are those that were read

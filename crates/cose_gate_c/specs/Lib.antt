@@ -4,3 +4,4 @@ pub mod Places
 pub mod RuledAsking
 pub mod StreamAsking
 pub mod Streaming
+pub mod Tokens

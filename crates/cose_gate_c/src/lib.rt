@@ -3,11 +3,12 @@
 //! `include/cose_gate.h` declares them.
 #![tactic(auto)]
 
-ghost use Rattle.std.specs.Prelude.{◌≡◌};
+ghost use Rattle.std.specs.Prelude.{◌≡◌, None};
 ghost use Rattle.cose_gate_c.specs.KeyParts.{ListsKeys};
 ghost use Rattle.cose_gate_c.specs.RuledAsking.{AsksRuled};
 ghost use Rattle.cose_gate_c.specs.StreamAsking.{StreamAsks};
 ghost use Rattle.cose_gate_c.specs.Streaming.{StreamChecks};
+ghost use Rattle.cose_gate_c.specs.Tokens.{AsksTokens};
 ghost use Rattle.cose_gate_records.specs.Calls.{AsksWithin, Checks, PassesWithin, PassesDigests};
 ghost use Rattle.cose_gate_records.specs.Calls.{buffers};
 
@@ -17,11 +18,13 @@ mod question_writing;
 mod ruled_asking;
 mod stream_asking;
 mod streaming;
+mod tokens;
 
 use crate::key_parts::list_keys;
-use crate::ruled_asking::ask_items;
+use crate::ruled_asking::{Given, ask_items};
 use crate::stream_asking::{StreamQuestion, ask_message};
 use crate::streaming::{StreamAnswer, check_message};
+use crate::tokens::{TokenChoice, ask_tokens};
 use cose_gate_records::{Answer, Choice, ask, check, pass, pass_digests};
 use std::alloc::Global;
 
@@ -112,7 +115,7 @@ pub extern "C" fn cose_gate_ask_ruled(
     layers: usize,
     strict: bool,
 ) -> Answer
-    ensures { AsksRuled nesting layers strict keys.now aad.now input.now
+    ensures { AsksRuled nesting layers strict None keys.now aad.now input.now
         (buffers «blocks».old «lines».old) (buffers «blocks».new «lines».new) result }
 {
     let choice = Choice {
@@ -120,7 +123,38 @@ pub extern "C" fn cose_gate_ask_ruled(
         layers,
         strict,
     };
-    ask_items(alloc, choice, keys, aad, input, blocks, lines)
+    let given = Given { keys, aad, input };
+    ask_items(alloc, choice, given, None, blocks, lines)
+}
+
+/// As `cose_gate_ask_ruled`, of items that have to be tokens (CWT, RFC 8392) whose claims pass by
+/// `token`: the blocks of `cose-ask --keys --cwt`. An item that is none has no questions, and its
+/// block says why. Neither status nor `lines` go by that.
+///
+/// If a text of `token` is no UTF-8, the status is 2, and nothing is read.
+#[unsafe(no_mangle)]
+pub extern "C" fn cose_gate_ask_tokens(
+    alloc: Global,
+    keys: &[u8],
+    token: &TokenChoice<'_>,
+    aad: &[u8],
+    input: &[u8],
+    blocks: &mut [u8],
+    lines: &mut [u8],
+    nesting: usize,
+    layers: usize,
+    strict: bool,
+) -> Answer
+    ensures { AsksTokens nesting layers strict token.now keys.now aad.now input.now
+        (buffers «blocks».old «lines».old) (buffers «blocks».new «lines».new) result }
+{
+    let choice = Choice {
+        nesting,
+        layers,
+        strict,
+    };
+    let given = Given { keys, aad, input };
+    ask_tokens(alloc, choice, given, *token, blocks, lines)
 }
 
 /// `pass_digests` of `cose_gate_records`: the messages of `input` all of whose questions' digests
@@ -148,8 +182,10 @@ pub extern "C" fn cose_gate_pass_digests(
     pass_digests(alloc, choice, accepted, aad, input, out, lines)
 }
 
-/// The parts of the keys of the set that the bytes `keys` are, in order: of each the byte strings
-/// under -1 (n or k), -2 (x or e) and -3 (y), after their lengths, empty if there is none.
+/// The parts of the keys of the set that the bytes `keys` are, in order, those of each after their
+/// length: the numbers of its type, its algorithm and its curve in eight bytes each, 0 if it has
+/// none, and then n or k, x or e, and y, each after its length, empty if there is none. No private
+/// part of a key pair is among them.
 ///
 /// The status is 0; 3 if the bytes are no key set; 4 if it is out of memory; and 5 if this is
 /// longer than `parts`, and only then: that stays as it was, and `length` is the length it needs.

@@ -1,5 +1,5 @@
 """Whether a signature or MAC is good under a key that the rules allow for its algorithm (RFC 9053, sections 2 and 3; RFC 8230; RFC 8812; RFC
-9864). So the algorithm fixes type and curve of the key, but for EdDSA, of which the length of x does."""
+9864). So the algorithm fixes type and curve of the key, but for EdDSA, which is on either of two."""
 
 from __future__ import annotations
 
@@ -10,6 +10,7 @@ from cose_gate.gate import KeyParts, Signature
 ECDSA = {-7: ("SECP256R1", "SHA256"), -35: ("SECP384R1", "SHA384"), -36: ("SECP521R1", "SHA512"), -47: ("SECP256K1", "SHA256"),
          -9: ("SECP256R1", "SHA256"), -51: ("SECP384R1", "SHA384"), -52: ("SECP521R1", "SHA512")}  # fmt: skip
 EDDSA = (-8, -19, -53)
+ED25519 = 6
 PSS = {-37: "SHA256", -38: "SHA384", -39: "SHA512"}
 PKCS1 = {-257: "SHA256", -258: "SHA384", -259: "SHA512"}
 HMAC = {4: ("sha256", 8), 5: ("sha256", 32), 6: ("sha384", 48), 7: ("sha512", 64)}
@@ -47,7 +48,7 @@ def _verify(one: Signature, key: KeyParts) -> bool:
         public.verify(utils.encode_dss_signature(r, s), one.covered, ec.ECDSA(digest))
         return True
     if one.algorithm in EDDSA:
-        kind = ed25519.Ed25519PublicKey if len(key.x_or_e) == 32 else ed448.Ed448PublicKey
+        kind = ed25519.Ed25519PublicKey if key.curve == ED25519 else ed448.Ed448PublicKey
         kind.from_public_bytes(key.x_or_e).verify(one.signature, one.covered)
         return True
     name = PSS.get(one.algorithm) or PKCS1.get(one.algorithm)

@@ -1,5 +1,5 @@
 //! The gate for Rust, by the library for C (include/cose_gate.h). `check` checks MACs. `pass` is for signatures: the library goes by the
-//! rules for headers and keys, and the caller says whether a signature is good under a key.
+//! rules for headers and keys, and the caller says whether a signature is good under a key. `pass_tokens` is that for tokens.
 use std::fmt;
 
 /// How a call ended, and how long what it wrote is (include/cose_gate.h).
@@ -9,6 +9,29 @@ struct Answer {
     status: u32,
     length: usize,
     lines: usize,
+}
+
+/// A string, as C has it.
+#[repr(C)]
+struct Text {
+    at: *const u8,
+    length: usize,
+}
+
+/// `Terms`, as C has them.
+#[repr(C)]
+struct TokenTerms {
+    earliest: i64,
+    latest: i64,
+    issuer: Text,
+    audience: Text,
+    needed: *const i64,
+    needed_length: usize,
+    named: *const Text,
+    named_length: usize,
+    has_issuer: bool,
+    has_audience: bool,
+    any_audience: bool,
 }
 
 /// A call over keys or digests, external data and an input, with two buffers.
@@ -35,6 +58,11 @@ macro_rules! declare {
                 given: *const u8, given_length: usize, aad: *const u8, aad_length: usize, input: *const u8, input_length: usize,
                 out: *mut u8, out_length: usize, lines: *mut u8, lines_length: usize, nesting: usize, layers: usize, strict: bool,
             ) -> Answer;)*
+            fn cose_gate_ask_tokens(
+                keys: *const u8, keys_length: usize, token: *const TokenTerms, aad: *const u8, aad_length: usize, input: *const u8,
+                input_length: usize, out: *mut u8, out_length: usize, lines: *mut u8, lines_length: usize, nesting: usize, layers: usize,
+                strict: bool,
+            ) -> Answer;
             fn cose_gate_key_parts(keys: *const u8, keys_length: usize, parts: *mut u8, parts_length: usize) -> Answer;
         }
     };
@@ -138,9 +166,14 @@ pub struct Signature<'a> {
     pub signature: &'a [u8],
 }
 
-/// The parts of a key that fits, empty if it has none.
+/// The parts of a key that fits: numbers of IANA's registries for COSE, 0 for none, and byte strings, empty if it has none.
 #[derive(Debug, Clone, Copy)]
 pub struct Key<'a> {
+    /// 1 is OKP, 2 EC2, 3 RSA, 4 symmetric.
+    pub kty: i64,
+    pub algorithm: i64,
+    /// 1 is P-256, 6 Ed25519.
+    pub curve: i64,
     /// n of an RSA key, k of a symmetric one.
     pub n_or_k: &'a [u8],
     /// x of a key on a curve, e of an RSA key.
@@ -161,6 +194,13 @@ fn text<'a>(rest: &mut &'a [u8]) -> &'a [u8] {
     let (front, behind) = rest.split_at(length);
     *rest = behind;
     front
+}
+
+/// The key whose parts these are.
+fn key(mut rest: &[u8]) -> Key<'_> {
+    let mut numbers = || number(&mut rest) as i64;
+    let (kty, algorithm, curve) = (numbers(), numbers(), numbers());
+    Key { kty, algorithm, curve, n_or_k: text(&mut rest), x_or_e: text(&mut rest), y: text(&mut rest) }
 }
 
 /// The digests of the good ones among the questions that blocks show. `docs/cose-ask.1` says what a block is.
@@ -190,19 +230,94 @@ fn accepted(mut blocks: &[u8], keys: &[Key], mut is_good: impl FnMut(&Signature,
 /// The messages of a sequence all of whose signatures and MACs the rules for headers and keys allow, and `is_good` says to be good under one
 /// of the keys that fit.
 pub fn pass(keys: &[u8], aad: &[u8], input: &[u8], strict: bool, is_good: impl FnMut(&Signature, &Key) -> bool) -> Result<Checked, GateError> {
-    let blocks = match call(cose_gate_ask_ruled, keys, aad, input, strict) {
-        Ok(asked) => asked.passed,
-        Err(GateError::Stopped { passed, .. }) => passed,
+    pass_good(call(cose_gate_ask_ruled, keys, aad, input, strict), keys, aad, input, strict, is_good)
+}
+
+/// Which tokens pass (RFC 8392).
+#[derive(Debug, Clone, Copy, Default)]
+pub struct Terms<'a> {
+    /// The second since 1970 that it is, and by how many clocks may differ.
+    pub now: i64,
+    pub leeway: i64,
+    /// What iss has to be, if it has to be there.
+    pub issuer: Option<&'a str>,
+    /// What aud has to be or to have. If there is none, a token with an aud is refused, but with `any_audience`.
+    pub audience: Option<&'a str>,
+    pub any_audience: bool,
+    /// The claims that have to be there, by their numbers, and by their names.
+    pub needed: &'a [i64],
+    pub named: &'a [&'a str],
+}
+
+fn lent(text: &str) -> Text {
+    Text { at: text.as_ptr(), length: text.len() }
+}
+
+/// As `pass`, of tokens whose claims pass.
+pub fn pass_tokens(keys: &[u8], terms: Terms, aad: &[u8], input: &[u8], strict: bool, is_good: impl FnMut(&Signature, &Key) -> bool) -> Result<Checked, GateError> {
+    let named: Vec<Text> = terms.named.iter().map(|name| lent(name)).collect();
+    let token = TokenTerms {
+        earliest: terms.now.saturating_sub(terms.leeway),
+        latest: terms.now.saturating_add(terms.leeway),
+        issuer: lent(terms.issuer.unwrap_or("")),
+        audience: lent(terms.audience.unwrap_or("")),
+        needed: terms.needed.as_ptr(),
+        needed_length: terms.needed.len(),
+        named: named.as_ptr(),
+        named_length: named.len(),
+        has_issuer: terms.issuer.is_some(),
+        has_audience: terms.audience.is_some(),
+        any_audience: terms.any_audience,
+    };
+    let blocks = run(input.len(), |out, lines| unsafe {
+        cose_gate_ask_tokens(
+            keys.as_ptr(),
+            keys.len(),
+            &token,
+            aad.as_ptr(),
+            aad.len(),
+            input.as_ptr(),
+            input.len(),
+            out.as_mut_ptr(),
+            out.len(),
+            lines.as_mut_ptr(),
+            lines.len(),
+            NESTING,
+            LAYERS,
+            strict,
+        )
+    });
+    pass_good(blocks, keys, aad, input, strict, is_good)
+}
+
+/// The messages all of whose questions are among those of the blocks, and good. If the input can't be read from some place on, the blocks are
+/// those before it.
+fn pass_good(
+    asked: Result<Checked, GateError>,
+    keys: &[u8],
+    aad: &[u8],
+    input: &[u8],
+    strict: bool,
+    is_good: impl FnMut(&Signature, &Key) -> bool,
+) -> Result<Checked, GateError> {
+    let (blocks, stopped) = match asked {
+        Ok(asked) => (asked.passed, None),
+        Err(GateError::Stopped { passed, lines }) => (passed, Some(lines)),
         Err(fault) => return Err(fault),
     };
     let parts = run(keys.len(), |out, _| unsafe { cose_gate_key_parts(keys.as_ptr(), keys.len(), out.as_mut_ptr(), out.len()) })?.passed;
     let mut rest = parts.as_slice();
     let mut listed = Vec::new();
     while !rest.is_empty() {
-        listed.push(Key { n_or_k: text(&mut rest), x_or_e: text(&mut rest), y: text(&mut rest) });
+        listed.push(key(text(&mut rest)));
     }
     let digests = accepted(&blocks, &listed, is_good);
-    call(cose_gate_pass_digests, &digests, aad, input, strict)
+    let checked = call(cose_gate_pass_digests, &digests, aad, input, strict)?;
+    match stopped {
+        None => Ok(checked),
+        // Memory ran out for the blocks.
+        Some(lines) => Err(GateError::Stopped { passed: checked.passed, lines }),
+    }
 }
 
 #[cfg(test)]
@@ -211,8 +326,12 @@ mod tests {
     #[test]
     fn passes_what_is_called_good() {
         let read = |name| std::fs::read(format!("{}/../{name}.cbor", env!("CARGO_MANIFEST_DIR"))).unwrap();
-        let of_32 = |one: &super::Signature, key: &super::Key| one.algorithm == 5 && one.signature.len() == 32 && key.n_or_k.len() == 32;
+        let of_32 = |one: &super::Signature, key: &super::Key| one.algorithm == 5 && (key.kty, key.algorithm, key.curve) == (4, 5, 0) && key.n_or_k.len() == 32;
         let checked = super::pass(&read("keys"), &[1], &read("mixed"), false, of_32).unwrap();
         assert!(checked.some_refused && checked.lines.ends_with(b"passed 4, refused 5\n"));
+        // None of them is a token.
+        let terms = super::Terms { named: &["scope"], needed: &[4], ..Default::default() };
+        let checked = super::pass_tokens(&read("keys"), terms, &[1], &read("mixed"), false, of_32).unwrap();
+        assert!(checked.passed.is_empty() && checked.lines.ends_with(b"passed 0, refused 9\n"));
     }
 }

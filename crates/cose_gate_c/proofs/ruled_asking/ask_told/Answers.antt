@@ -12,7 +12,7 @@ use Rattle.cose_gate_c.proofs.ruled_asking.ask_told.Goals as goal
 pub returns : goal.returns
 returns g c =
     let r = c.ask_ruled-status.ensures.ran in
-    let ks = map key_view c.args.keys.now in
+    let ks = map key_view c.args.rules.keys.now in
     let all = told_in (asks ks) c.args.run.aad.now r.0.run r.0.flushed in
     let lines = c.ask_ruled-status.new.teller in
     let name : lines.buffer.ghost_name ≡ _ = same_buffer _ _ all r.0.told ∙ c.new-told.ensures.kept in
