@@ -7,7 +7,7 @@ use Rattle.cose_gate_c.proofs.ruled_asking.ask_within.Goals as goal
 pub returns-in-Ok : goal.returns-in-Ok
 returns-in-Ok c =
     let b = c.in-Ok.ensures in
-    let told = rw c.as_slice-keys.ensures.value at c.ask_under.ensures in
+    let told = rw c.as_slice.ensures.value at c.ask_under.ensures in
     (told.0, told.1, inl (_, set_of _ _ _ b.1 b.3, told.2), told.3)
 
 pub returns-in-Err : goal.returns-in-Err
