@@ -177,11 +177,11 @@ known None P Q f k = tt
 known (Some b) P Q f k = f b k
 
 -- the clause `part`
-pub part_now : {W F : Type 0} (limits : Bounds) (w : Writes W F) (old new : W) (left : Option (List ℕ)) → OldPart limits w old new left → CopiedPart limits w old new left
+part_now : {W F : Type 0} (limits : Bounds) (w : Writes W F) (old new : W) (left : Option (List ℕ)) → OldPart limits w old new left → CopiedPart limits w old new left
 part_now limits w old new left (old_nothing e) = nothing_copied e
 part_now limits w old new left (old_part answer text writes k) = part_copied answer text writes (known left _ _ (λ b p. payload limits b text p) k)
 
-pub part_was : {W F : Type 0} (limits : Bounds) (w : Writes W F) (old new : W) (left : Option (List ℕ)) → CopiedPart limits w old new left → OldPart limits w old new left
+part_was : {W F : Type 0} (limits : Bounds) (w : Writes W F) (old new : W) (left : Option (List ℕ)) → CopiedPart limits w old new left → OldPart limits w old new left
 part_was limits w old new left (nothing_copied e) = old_nothing e
 part_was limits w old new left (part_copied answer text writes k) = old_part answer text writes (known left _ _ (λ b p. payload_was limits b text p) k)
 
@@ -201,8 +201,8 @@ shows_was limits b e (no_protected t items rest _ r f w) = old_no_protected r.be
 shows_was limits b e (no_header first t items rest _ r f w) = old_no_header r.begins.count first t items rest e (up_to_was limits b (one_more first no_trees) items r) f w
 shows_was limits b _ (no_payload h o x y z) = old_no_payload h (opening_was limits b h o) x y z
 shows_was limits b _ (no_signature three t items rest r n f w) = old_no_signature r.begins.count three t items rest (up_to_was limits b three items r) n f w
-shows_was limits b _ (not_closed four h last rest r open n f w) =
-    old_not_closed four h last rest (subst (λ (o : Option ℕ). OldUpTo limits b o four last) open (up_to_was limits b four last r)) n f w
+shows_was limits b _ (not_closed four h last rest r opening_of_it n f w) =
+    old_not_closed four h last rest (subst (λ (o : Option ℕ). OldUpTo limits b o four last) opening_of_it (up_to_was limits b four last r)) n f w
 
 other : (b : List ℕ) (t : Tree) (ts : Trees) → OldOther b t ts → IsOtherCount b t ts
 other b t ts o = record {
@@ -262,14 +262,14 @@ unstreamed_was limits stop b without_length o = opening_was limits b (Bytes None
 unstreamed_was limits stop b refused d = d
 
 -- the clause `err`
-pub err_now : {E : Type 0} (ends : E → Bool) (limits : Bounds) (room : ℕ) (old : Seen) (f : StreamFault E) → NamesWhy ends (OldUnstreamed limits) room old f → NamesWhy ends (UnstreamedBy limits) room old f
+err_now : {E : Type 0} (ends : E → Bool) (limits : Bounds) (room : ℕ) (old : Seen) (f : StreamFault E) → NamesWhy ends (OldUnstreamed limits) room old f → NamesWhy ends (UnstreamedBy limits) room old f
 err_now ends limits room old f k = (k.0, known old.left _ _ (λ b t. tells_as ends _ _ _ _ f (λ w d. unstreamed limits (old.offset + length b) b w d) (λ l. l) t) k.1)
 
-pub err_was : {E : Type 0} (ends : E → Bool) (limits : Bounds) (room : ℕ) (old : Seen) (f : StreamFault E) → NamesWhy ends (UnstreamedBy limits) room old f → NamesWhy ends (OldUnstreamed limits) room old f
+err_was : {E : Type 0} (ends : E → Bool) (limits : Bounds) (room : ℕ) (old : Seen) (f : StreamFault E) → NamesWhy ends (UnstreamedBy limits) room old f → NamesWhy ends (OldUnstreamed limits) room old f
 err_was ends limits room old f k = (k.0, known old.left _ _ (λ b t. tells_as ends _ _ _ _ f (λ w d. unstreamed_was limits (old.offset + length b) b w d) (λ l. l) t) k.1)
 
 -- the field `failed` of the clause `steady`
-pub same_failures : {T E : Type 0} (ends : E → Bool) (answer : Result T (StreamFault E)) (n : ℕ) → failures ends answer n ≡ old_failures ends answer n
+same_failures : {T E : Type 0} (ends : E → Bool) (answer : Result T (StreamFault E)) (n : ℕ) → failures ends answer n ≡ old_failures ends answer n
 same_failures ends (Ok x) n = refl
 same_failures ends (Err (fault.Decode (de.Io e))) n = refl
 same_failures ends (Err (fault.Decode (de.Syntax p))) n = refl
