@@ -9,7 +9,6 @@ pub mod Forms
 pub mod Heads
 pub mod Lengths
 pub mod Meant
-pub mod OldWords
 pub mod Pieces
 pub mod Placed
 pub mod Usual
