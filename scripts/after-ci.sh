@@ -22,53 +22,76 @@ export T=$folder/users nobody= bare
 bare=$(for it in ${PATH//:/ }; do [ -x "$it/rt" ] || printf '%s:' "$it"; done) bare=${bare%:}
 [ "$(id -u)" != 0 ] || nobody="setpriv --reuid=65534 --regid=65534 --clear-groups"
 
-# The rows: the exit status, the file that the output equals, the last line of standard error, and a command, which runs in examples/. An empty
-# field isn't compared. $T is a folder of its own, with a copy of the repository that has no out/, and what is written to 4 goes into a pipe that
+# The rows: the exit status, the file that the output equals, the last line or lines of standard error, and a command, which runs in examples/. An
+# empty field isn't compared. $T is a folder of its own, with a copy of the repository that has no out/, and what is written to 4 goes into a pipe that
 # nobody reads. $bare is PATH without the folders that have rt.
 rows() {
   cat <<'END'
-# help, arguments, files
-0|||cose-gate --help | cmp - <(../cose-gate --help) && cose-gate -h | cmp - <(../cose-gate --help)
-0|||cose-ask --help | cmp - <(../cose-ask --help) && cose-ask -h | cmp - <(../cose-ask --help)
-0|||cose-pass --help | cmp - <(../cose-pass --help) && cose-pass -h | cmp - <(../cose-pass --help)
-0|||cose-show --json --help | cmp - <(../cose-show --help) && cose-show -h | cmp - <(../cose-show --help)
-0|||for name in gate ask pass show sift; do cose-$name --version && ../cose-$name --version; done | cmp - <(printf "cose-%s $(cat ../VERSION)\n" {gate,ask,pass,show,sift}{,})
-2|/dev/null|  cose-gate --help has all options|cose-gate --strict
-2|/dev/null|  cose-gate --help has all options|cose-gate keys.cbor 01 02 < one.cbor
-2|/dev/null|  cose-gate --help has all options|cose-gate keys.cbor $'\xff' < one.cbor
-2|/dev/null|  cose-gate --help has all options|../cose-gate --strikt keys.cbor
-2|/dev/null|  cose-gate --help has all options|cose-gate keys.cbor --strikt < one.cbor
-2|/dev/null||cose-gate keys.cbor --strict --stream < one.cbor 2> $T/said; s=$?; cmp $T/said <(printf 'usage: cose-gate KEYS [AADHEX]\n  --strict: no such option with --stream\n  cose-gate --help has all options\n') && exit $s || exit 9
-2|/dev/null||../cose-gate --payload keys.cbor < one.cbor 2> $T/said; s=$?; cmp $T/said <(printf 'usage: cose-gate KEYS [AADHEX]\n  --payload is for --stream\n  cose-gate --help has all options\n') && exit $s || exit 9
-2|/dev/null|  cose-ask --help has all options|cose-ask --strikt < one.cbor
-2|/dev/null|  cose-ask --help has all options|cose-ask 01 02 < one.cbor
-2|/dev/null|  cose-ask --help has all options|cose-ask $'\xff' < one.cbor
-2|/dev/null|  cose-ask --help has all options|../cose-ask --strikt
-2|/dev/null|  cose-ask --help has all options|cose-ask --keys < one.cbor
-2|/dev/null|  cose-ask --help has all options|cose-ask --keys keys.cbor --lines 01 < one.cbor
-2|/dev/null|  cose-ask --help has all options|cose-ask --strict --keys keys.cbor < one.cbor
-2|/dev/null|  cose-ask --help has all options|../cose-ask --keys keys.cbor --fields
-2|/dev/null|  cose-pass --help has all options|cose-pass
-2|/dev/null|  cose-pass --help has all options|cose-pass --strikt /dev/null < one.cbor
-2|/dev/null|  cose-pass --help has all options|cose-pass /dev/null $'\xff' < one.cbor
-2|/dev/null|  cose-pass --help has all options|../cose-pass
-2|/dev/null|  cose-pass --help has all options|cose-pass --strict --digests /dev/null < one.cbor
-2|/dev/null|  cose-pass --help has all options|../cose-pass --digests
-# the first line of other arguments, and what is wrong with them; the scripts say what the programs say
-0|||for words in keys.cbor\ 01\ 02 --strikt '--verbose -' '' --stream=1; do for it in cose-gate ../cose-gate; do $it $words 2>&1 < one.cbor || :; done; done | cmp - <(for said in '02 is one word too many' '--strikt: no such option' '-: no such option' 'KEYS is missing: a file with a key set, which cose-key makes' '--stream=1: no such option'; do printf "usage: cose-gate KEYS [AADHEX]\\n  %s\\n  cose-gate --help has all options\\n" "$said"{,}; done)
-0|||for it in ask pass sift; do for words in '01 02 03' --strikt '--help 01'; do cmp <(cose-$it $words 2>&1 < one.cbor) <(../cose-$it $words 2>&1 < one.cbor) || exit; done; done
-2|/dev/null||cose-gate $'k\e[2J' 01 $'\n02"' < one.cbor 2> $T/said; s=$?; grep -qxF '  \n02\" is one word too many' $T/said || s=1; exit $s
-2|/dev/null||cose-ask $'\xff' 2> $T/said; s=$?; grep -qx "  an argument isn't UTF-8" $T/said || s=1; exit $s
-2|/dev/null||cose-ask --keys 2> $T/said; s=$?; grep -qx '  --keys: no word is after it' $T/said || s=1; exit $s
-0|||cose-sift --help | cmp - <(../cose-sift --help)
-2|/dev/null|  cose-sift --help has all options|cose-sift --max < one.cbor
-2|/dev/null|  cose-sift --help has all options|cose-sift --max 0x10 < one.cbor
-2|/dev/null|  cose-sift --help has all options|../cose-sift --untag --max < one.cbor
-2|/dev/null|  cose-sift --help has all options|../cose-sift one.cbor
-2|/dev/null|  cose-show --help has all options|cose-show --strikt < one.cbor
-0|||[ "$(cose-show --strikt 2>&1 | head -n 1)" = 'cose-show: --strikt: no such option' ]
+# help and version, anywhere before --; the scripts take them out of the source
+0|||for it in gate ask pass show sift; do cmp <(cose-$it --help) <(../cose-$it --help) && cmp <(cose-$it -h) <(../cose-$it x -h) || exit; done
+0|||for it in gate ask pass show sift; do cose-$it --version && ../cose-$it --version -h; done | cmp - <(printf "cose-%s $(cat ../VERSION)\n" {gate,ask,pass,show,sift}{,})
+0|||for it in gate ask pass sift; do cmp <(cose-$it --strikt x --keys --help --version) <(cose-$it --help) && ! cose-$it -- --help | grep . || exit; done
+0|||cmp <(cose-show --json --help) <(cose-show -h)
+# wrong arguments: the usage, what is wrong, and how to go on
+2|/dev/null|usage: cose-gate KEYS [AADHEX]\n  KEYS is missing: a file with a key set, which cose-key makes\n  cose-gate --help has all options|cose-gate --strict < one.cbor
+2|/dev/null|usage: cose-gate KEYS [AADHEX]\n  02 is one word too many\n  cose-gate --help has all options|cose-gate keys.cbor 01 02 < one.cbor
+2|/dev/null|usage: cose-gate KEYS [AADHEX]\n  02 is one word too many\n  cose-gate --help has all options|cose-gate --aad 01 keys.cbor 02 < one.cbor
+2|/dev/null|usage: cose-gate KEYS [AADHEX]\n  two.cbor is one word too many\n  cose-gate --help has all options|cose-gate --keys keys.cbor one.cbor two.cbor
+2|/dev/null|usage: cose-gate KEYS [AADHEX]\n  --keys is there twice\n  cose-gate --help has all options|cose-gate --keys keys.cbor --keys keys.cbor one.cbor
+2|/dev/null|usage: cose-gate KEYS [AADHEX]\n  --aad: no word is after it\n  cose-gate --help has all options|cose-gate keys.cbor --aad < one.cbor
+2|/dev/null|usage: cose-gate KEYS [AADHEX]\n  --strikt: no such option\n  cose-gate --help has all options|cose-gate keys.cbor --strikt < one.cbor
+2|/dev/null|usage: cose-gate KEYS [AADHEX]\n  --stream=1: no such option\n  cose-gate --help has all options|cose-gate --stream=1 keys.cbor < one.cbor
+2|/dev/null|usage: cose-gate KEYS [AADHEX]\n  a word is one word too many\n  cose-gate --help has all options|cose-gate $'k\e[2J' 01 $'\n02"' < one.cbor
+2|/dev/null|usage: cose-gate KEYS [AADHEX]\n  an option: no such option\n  cose-gate --help has all options|cose-gate $'--\e[2J' < one.cbor
+2|/dev/null|usage: cose-gate KEYS [AADHEX]\n  an argument isn't UTF-8\n  cose-gate --help has all options|cose-gate keys.cbor $'\xff' < one.cbor
+2|/dev/null|usage: cose-gate KEYS [AADHEX]\n  --strict: no such option\n  cose-gate --stream --help has all options|cose-gate keys.cbor --strict --stream < one.cbor
+2|/dev/null|usage: cose-gate KEYS [AADHEX]\n  --payload is there twice\n  cose-gate --stream --help has all options|cose-gate --payload $T/f keys.cbor --stream --payload $T/f < one.cbor
+2|/dev/null|usage: cose-gate KEYS [AADHEX]\n  --payload is for --stream\n  cose-gate --stream --help has all options|cose-gate --payload keys.cbor < one.cbor
+2|/dev/null|usage: cose-ask [AADHEX]\n  --strikt: no such option\n  cose-ask --help has all options|cose-ask --strikt < one.cbor
+2|/dev/null|usage: cose-ask [AADHEX]\n  02 is one word too many\n  cose-ask --help has all options|cose-ask 01 02 < one.cbor
+2|/dev/null|usage: cose-ask [AADHEX]\n  01 is one word too many\n  cose-ask --help has all options|cose-ask --keys keys.cbor one.cbor 01
+2|/dev/null|usage: cose-ask [AADHEX]\n  --aad is there twice\n  cose-ask --help has all options|cose-ask --aad 01 one.cbor --aad 01
+2|/dev/null|usage: cose-ask [AADHEX]\n  --keys: no word is after it\n  cose-ask --help has all options|cose-ask --keys < one.cbor
+2|/dev/null|usage: cose-ask [AADHEX]\n  --lines and --fields aren't for --keys\n  cose-ask --help has all options|cose-ask --keys keys.cbor --lines one.cbor
+2|/dev/null|usage: cose-ask [AADHEX]\n  --cwt is missing: what is asked of tokens is for it\n  cose-ask --help has all options|cose-ask --at 0 --keys keys.cbor one.cbor
+2|/dev/null|usage: cose-ask [AADHEX]\n  an argument isn't UTF-8\n  cose-ask --help has all options|cose-ask $'\xff' < one.cbor
+2|/dev/null|usage: cose-pass ACCEPTED [AADHEX]\n  ACCEPTED is missing: a file with the records that were accepted\n  cose-pass --help has all options|cose-pass < one.cbor
+2|/dev/null|usage: cose-pass ACCEPTED [AADHEX]\n  --strikt: no such option\n  cose-pass --help has all options|cose-pass --strikt /dev/null < one.cbor
+2|/dev/null|usage: cose-pass ACCEPTED [AADHEX]\n  --accepted is there twice\n  cose-pass --help has all options|cose-pass --accepted /dev/null one.cbor --accepted /dev/null
+2|/dev/null|usage: cose-pass ACCEPTED [AADHEX]\n  --aad: no word is after it\n  cose-pass --help has all options|cose-pass --accepted /dev/null --aad < one.cbor
+2|/dev/null|usage: cose-pass ACCEPTED [AADHEX]\n  an argument isn't UTF-8\n  cose-pass --help has all options|cose-pass /dev/null $'\xff' < one.cbor
+2|/dev/null|usage: cose-sift [--untag] [--max BYTES] [FILE]\n  --strikt: no such option\n  cose-sift --help has all options|cose-sift --strikt < one.cbor
+2|/dev/null|usage: cose-sift [--untag] [--max BYTES] [FILE]\n  --max: no word is after it\n  cose-sift --help has all options|cose-sift one.cbor --max
+2|/dev/null|usage: cose-sift [--untag] [--max BYTES] [FILE]\n  --max is there twice\n  cose-sift --help has all options|cose-sift --max 1 one.cbor --max 1
+2|/dev/null|usage: cose-sift [--untag] [--max BYTES] [FILE]\n  --max: not in digits, or not below 10^16\n  cose-sift --help has all options|cose-sift --max 0x10 < one.cbor
+2|/dev/null|usage: cose-sift [--untag] [--max BYTES] [FILE]\n  two.cbor is one word too many\n  cose-sift --help has all options|cose-sift one.cbor two.cbor
+0|||cmp <(for it in --strikt --keys '--cut 1' '--cut one d' 'one.cbor two.cbor' '--cut 1 d --hex'; do cose-show $it 2>&1 | head -n 1; done) <(printf 'cose-show: %s\n' '--strikt: no such option' '--keys KEYS: a word is missing' '--cut SIZE DIR: a word is missing' '--cut: one is no number of bytes' 'two.cbor: one word too many; FILE is named already' '--cut takes no text: no --hex, no --base64')
+2|/dev/null|cose-show: --strikt: no such option\n  cose-show --help has all options|cose-show --strikt < one.cbor
 2|/dev/null|cose-show: an argument isn't UTF-8|cose-show $'\xff'
-0|||for it in --strikt --keys '--cut 1' '--cut one d' 'one.cbor two.cbor' '--cut 1 d --hex'; do cmp <(cose-show $it 2>&1) <(../cose-show $it 2>&1) || exit; done
+# FILE: by name, standard input as -, with options after it, after --; one that can't be opened
+0|one.cbor|passed 1, refused 0|cose-gate --keys keys.cbor --aad 01 one.cbor
+0|one.cbor|passed 1, refused 0|cose-gate - --aad 01 --strict --keys keys.cbor < one.cbor
+0|one.cbor|passed 1, refused 0|cose-gate --aad 01 -- keys.cbor < one.cbor
+0|one.cbor|passed 1, refused 0|cp one.cbor $T/--aad; cp keys.cbor $T/--; cd $T; cose-gate --keys -- --aad 01 -- --aad && rm ./--aad ./--
+0|/dev/null|passed|cose-gate one.cbor --aad 01 --payload $T/named --stream --keys keys.cbor && printf hi | cmp - $T/named
+0|$T/first|passed 1, refused 0|cose-ask 01 < one.cbor > $T/first 2> /dev/null; cose-ask --aad 01 one.cbor
+0|$T/first|passed 1, refused 0|cose-ask --strict - --aad 01 < one.cbor
+0||passed 1, refused 0|cose-ask one.cbor --aad 01 --lines | cmp - <(cose-ask --lines -- 01 < one.cbor 2> /dev/null)
+0||passed 1, refused 0|cose-ask one.cbor --cwt --any-aud --leeway 1 --at 0 --aad 01 --keys keys.cbor | cmp - <(cose-ask --keys keys.cbor --aad 01 --cwt --at 0 --leeway 1 --any-aud < one.cbor 2> /dev/null)
+0|one.cbor|passed 1, refused 0|cose-pass --accepted $T/first --aad 01 one.cbor
+0|one.cbor|passed 1, refused 0|cose-pass --aad 01 --strict -- $T/first < one.cbor
+0|one.cbor|passed 1, refused 0|cose-pass - --aad 01 --accepted $T/first < one.cbor
+0|one.cbor|sifted 1, dropped 0|cose-sift one.cbor --max 48 --untag
+0|one.cbor|sifted 1, dropped 0|cose-sift --max 48 -- - < one.cbor
+3|/dev/null|input: cannot be read\n  nosuch: no such file|cose-gate --keys keys.cbor nosuch
+3|/dev/null|input: cannot be read\n  nosuch: no such file|cose-gate --stream --payload $T/none --keys keys.cbor nosuch; s=$?; [ ! -e $T/none ] && exit $s
+3|/dev/null|input: cannot be read\n  nosuch: no such file|cose-ask --keys keys.cbor nosuch
+3|/dev/null|input: cannot be read\n  nosuch: no such file|cose-ask --aad 01 nosuch
+3|/dev/null|input: cannot be read\n  nosuch: no such file|cose-pass --accepted /dev/null nosuch
+3|/dev/null|input: cannot be read\n  $T/unreadable: no permission|$nobody cose-sift $T/unreadable
+3|/dev/null|input: cannot be read\n  FILE: no such file|cose-sift $'no\e[2J'
+4|/dev/null|stopped: decode: Io|cose-gate --keys keys.cbor .
+# AADHEX and KEYS
 2|/dev/null|aad: not hex|cose-gate keys.cbor 0 < one.cbor
 2|/dev/null|aad: not hex|cose-ask 0 < one.cbor
 2|/dev/null|aad: not hex|cose-pass /dev/null 0 < one.cbor
@@ -78,23 +101,18 @@ rows() {
 3|/dev/null|  it is text in hex, not binary|cose-gate <(od -An -tx1 keys.cbor) 01 < one.cbor
 3|/dev/null|  it is text in base64, not binary|cose-gate <(base64 keys.cbor) 01 < one.cbor
 3|/dev/null|  nosuch: no such file|cose-gate --verbose nosuch 01 < one.cbor
-3|/dev/null|  nosuch: no such file|../cose-gate nosuch 01
 3|/dev/null|  .: a folder|cose-gate --verbose . 01 < one.cbor
 3|/dev/null|  $T/unreadable: no permission|$nobody cose-gate --verbose $T/unreadable 01 < one.cbor
 3|/dev/null|  cose-show shows what it holds|cose-gate one.cbor 01 < one.cbor
 3|/dev/null|accepted: cannot be read|cose-pass nosuch 01 < one.cbor
 3|/dev/null|accepted: cannot be read|$nobody cose-pass $T/unreadable 01 < one.cbor
-3|/dev/null|  nosuch: no such file|../cose-pass nosuch 01
 3|/dev/null|accepted: no records|cose-pass <(printf '\1\0\0\0\0\0\0\0') 01 < one.cbor
 3|/dev/null|accepted: line 1: not hex|cose-pass one.cbor 01 < one.cbor
 3|/dev/null|accepted: line 2: no record|cose-pass <(printf '\n00\n') 01 < one.cbor
 3|/dev/null|cose-show: nosuch: no such file|cose-show nosuch
 3|/dev/null|cose-show: $T/unreadable: no permission|$nobody cose-show $T/unreadable
-3|/dev/null|cose-show: nosuch: no such file|../cose-show nosuch
 3|/dev/null|cose-show: .: a folder|cose-show .
-3|/dev/null|cose-show: .: a folder|../cose-show .
 3|/dev/null|cose-show: nosuch: no such file|cose-show --keys nosuch one.cbor
-3|/dev/null|cose-show: nosuch: no such file|../cose-show --keys nosuch one.cbor
 3|/dev/null|cose-show: $T/k.jwk is no key set: it begins with {, as a JSON Web Key does: cose-key $T/k.jwk > keys.cbor|echo '{"kty":"oct","k":"AAEC"}' > $T/k.jwk && cose-show --keys $T/k.jwk one.cbor
 3|/dev/null|cose-show: $T/k.hex is no key set: it is text in hex, not binary: xxd -r -p $T/k.hex > keys.cbor|od -An -v -tx1 keys.cbor > $T/k.hex && cose-show --keys $T/k.hex one.cbor
 2|/dev/null|usage: scripts/c-library.sh [left] STEP.., and STEP is c, rust, go, python, es256, image, compare, memory or valgrind|../scripts/c-library.sh
@@ -123,6 +141,7 @@ rows() {
 0|$T/many|passed 2000, refused 0|cose-gate keys.cbor 01 < $T/many
 0|||[ "$(cose-gate --quiet keys.cbor 01 < $T/many 2>&1 > /dev/null)" = 'passed 2000, refused 0' ]
 0|||[ "$(cose-gate --summary keys.cbor 01 < mixed.cbor 2>&1 > /dev/null)" = "$(cose-gate keys.cbor 01 < mixed.cbor 2>&1 > /dev/null | tail -n 1)" ]
+0|||cose-gate --verbose keys.cbor 01 < one.cbor 2>&1 > /dev/null | grep -A 1 -x 'item 1 at 0: passed' | grep -qx '  HMAC 256/256, h'\''3031'\'' ("01")'
 0|||cmp <(cose-gate --verbose keys.cbor 01 < mixed.cbor 2>&1 > /dev/null | grep -v '^  ') <(cose-gate keys.cbor 01 < mixed.cbor 2>&1 > /dev/null)
 0||passed 2000, refused 0|cose-ask --lines 01 < $T/many > $T/lines
 0|$T/many|passed 2000, refused 0|cose-pass $T/lines 01 < $T/many
@@ -175,22 +194,20 @@ rows() {
 1|/dev/null|passed 0, refused 1|cose-pass --digests /dev/null 01 < one.cbor
 3|/dev/null|accepted: no digests|cose-pass --digests <(head -c 33 /dev/zero) 01 < one.cbor
 3|/dev/null|accepted: cannot be read|cose-pass --digests nosuch 01 < one.cbor
-3|/dev/null|  nosuch: no such file|../cose-pass --digests nosuch 01
 # blocks: the item and its question, or why it has none; the digests; what stops a run; KEYS
-0|||[ "$(cose-ask --keys keys.cbor 01 < one.cbor 2> /dev/null | python3 ../scripts/blocks.py)" = "$(printf 'item 1 at 0 to 48: passed, asked 1\n  17 5 [0] %s %s %s' $(cose-ask --lines 01 < one.cbor 2> /dev/null | cut -d ' ' -f 7,8) $(od -An -v -tx1 $T/one.digests | tr -d ' \n'))" ]
-1||passed 0, refused 1|cose-ask --keys <(printf '\201\242\1\4\40\101\0') 01 < one.cbor > $T/blocks; s=$?; [ "$(python3 ../scripts/blocks.py < $T/blocks)" = 'item 1 at 0 to 48: refused: Judged, asked 1: no key has its key id' ] && exit $s || exit 9
-0|$T/one.digests||cose-ask --keys keys.cbor 01 < one.cbor 2> /dev/null | python3 ../scripts/blocks.py --digests
-0|one.cbor|passed 1, refused 0|cose-ask --keys keys.cbor 01 < one.cbor 2> /dev/null | python3 ../scripts/blocks.py --digests > $T/from.blocks && cose-pass --digests $T/from.blocks 01 < one.cbor
-0||passed 1, refused 0|cose-ask --keys keys.cbor 01 < one.cbor > $T/one.blocks
-0||passed 1, refused 0|cose-ask --keys keys.cbor 01 --strict < one.cbor | cmp - $T/one.blocks
-4|$T/one.blocks|stopped: decode: Io(EndOfFile)|cose-ask --keys keys.cbor 01 < cut.cbor
-4||stopped: write|cose-ask --keys keys.cbor 01 < one.cbor > /dev/full
-0|$T/one.blocks||cose-ask --keys keys.cbor 01 < one.cbor 2> /dev/full
-124|$T/one.blocks|item 1 at 0: passed|{ cat one.cbor; sleep 3; } | timeout 2 cose-ask --keys keys.cbor 01
-2|/dev/null|aad: not hex|cose-ask --keys keys.cbor 0 < one.cbor
-3|/dev/null|  no such file|cose-ask --keys nosuch 01 < one.cbor
-3|/dev/null|  nosuch: no such file|../cose-ask --keys nosuch 01
-3|/dev/null|  it is text in hex, not binary|cose-ask --keys <(od -An -tx1 keys.cbor) 01 < one.cbor
+0|||[ "$(cose-ask --keys keys.cbor --aad 01 < one.cbor 2> /dev/null | python3 ../scripts/blocks.py)" = "$(printf 'item 1 at 0 to 48: passed, asked 1\n  17 5 [0] %s %s %s' $(cose-ask --lines 01 < one.cbor 2> /dev/null | cut -d ' ' -f 7,8) $(od -An -v -tx1 $T/one.digests | tr -d ' \n'))" ]
+1||passed 0, refused 1|cose-ask --keys <(printf '\201\242\1\4\40\101\0') --aad 01 < one.cbor > $T/blocks; s=$?; [ "$(python3 ../scripts/blocks.py < $T/blocks)" = 'item 1 at 0 to 48: refused: Judged, asked 1: no key has its key id' ] && exit $s || exit 9
+0|$T/one.digests||cose-ask --keys keys.cbor --aad 01 < one.cbor 2> /dev/null | python3 ../scripts/blocks.py --digests
+0|one.cbor|passed 1, refused 0|cose-ask --keys keys.cbor --aad 01 < one.cbor 2> /dev/null | python3 ../scripts/blocks.py --digests > $T/from.blocks && cose-pass --digests $T/from.blocks 01 < one.cbor
+0||passed 1, refused 0|cose-ask --keys keys.cbor --aad 01 < one.cbor > $T/one.blocks
+0||passed 1, refused 0|cose-ask --keys keys.cbor --aad 01 --strict < one.cbor | cmp - $T/one.blocks
+4|$T/one.blocks|stopped: decode: Io(EndOfFile)|cose-ask --keys keys.cbor --aad 01 < cut.cbor
+4||stopped: write|cose-ask --keys keys.cbor --aad 01 < one.cbor > /dev/full
+0|$T/one.blocks||cose-ask --keys keys.cbor --aad 01 < one.cbor 2> /dev/full
+124|$T/one.blocks|item 1 at 0: passed|{ cat one.cbor; sleep 3; } | timeout 2 cose-ask --keys keys.cbor --aad 01
+2|/dev/null|aad: not hex|cose-ask --keys keys.cbor --aad 0 < one.cbor
+3|/dev/null|  no such file|cose-ask --keys nosuch --aad 01 < one.cbor
+3|/dev/null|  it is text in hex, not binary|cose-ask --keys <(od -An -tx1 keys.cbor) --aad 01 < one.cbor
 4||cose-show: damaged at 50: the input ends inside an item|cose-show cut.cbor
 4|/dev/null|cose-show: the input looks like text in hex; --hex reads it|printf '%040d' 0 | cose-show
 4|/dev/null|cose-show: the input looks like text in hex; --hex reads it|{ printf '%08d' 0; sleep 1; printf '%08d' 0; } | cose-show
@@ -273,11 +290,12 @@ rows() {
 # a non-blocking input, which has failed once the program would wait
 4|one.cbor|stopped: decode: Io|mkfifo $T/open && exec 5<> $T/open && cat one.cbor >&5 && python3 -c 'import fcntl, os, sys; fcntl.fcntl(0, fcntl.F_SETFL, os.O_NONBLOCK); os.execvp(sys.argv[1], sys.argv[1:])' cose-gate keys.cbor 01 <&5
 # without the kit: a line; and no program is taken that isn't noted as built of the sources as they are; modes that the umask doesn't change
-0|||for it in 'gate keys.cbor' ask 'pass one.cbor' sift show; do PATH=$bare $T/copy/cose-$it; echo $?; done 2>&1 < one.cbor | cmp - <(printf "cose-%s: rt isn't in PATH: it comes with Rattle's kit, KIT/bin\n70\n" gate ask pass sift show)
+0|||for it in gate ask pass sift show; do PATH=$bare $T/copy/cose-$it; echo $?; done 2>&1 | cmp - <(printf "cose-%s: rt isn't in PATH: it comes with Rattle's kit, KIT/bin\n70\n" gate ask pass sift show)
 0|||for it in gate verify; do PATH=$bare bash $T/copy/scripts/try.sh cose-$it keys.cbor; echo $?; done 2>&1 < one.cbor | cmp - <(printf "cose-%s: rt isn't in PATH: it comes with Rattle's kit, KIT/bin\n70\n" gate verify)
 0|||for it in install package; do PATH=$bare bash $T/copy/scripts/$it.sh $T/made; echo $?; done 2>&1 | cmp - <(printf "%s.sh: rt isn't in PATH: it comes with Rattle's kit, KIT/bin\n70\n" install package)
 70|/dev/null|install.sh: rt isn't in PATH: it comes with Rattle's kit, KIT/bin|cp -r $T/built/. $T/copy/crates && PATH=$bare bash $T/copy/scripts/install.sh $T/made
-0|||bash $T/copy/scripts/proved.sh --left && umask 077 && PATH=$bare bash $T/copy/scripts/install.sh $T/made && $T/made/bin/cose-gate -h | cmp - <(cose-gate -h) && ! find $T/made ! -perm -o=r | grep .
+0|one.cbor|passed 1, refused 0|bash $T/copy/scripts/proved.sh --left && PATH=$bare $T/copy/cose-gate --keys keys.cbor --aad 01 one.cbor
+0|||umask 077 && PATH=$bare bash $T/copy/scripts/install.sh $T/made && $T/made/bin/cose-gate -h | cmp - <(cose-gate -h) && ! find $T/made ! -perm -o=r | grep .
 0|||export GIT_DIR=$(git rev-parse --absolute-git-dir); umask 077; PATH=$bare bash $T/copy/scripts/package.sh $T/made && ! tar -tvf $T/made/*.gz | grep -v '^.r.xr.xr.x\|^-rw-r--r--' && [ -e $T/made/*.deb -o ! -x /usr/bin/dpkg-deb ]
 0|||mkdir $T/package && tar -C $T/package -xf $T/made/*.gz && cd $T/package/usr/share/doc/cose-gate && ls $(grep -oE '(docs|examples)/[A-Za-z0-9_./-]*[a-z0-9]' README.md) && [[ "$(cat ../../../lib/cose-gate/version)" == "$(cat $T/copy/VERSION) ("* ]]
 # completion: of options, algorithms and files
@@ -369,7 +387,8 @@ go_through() {
     [ -n "$command" ] || continue
     found=0
     PATH=$T/bin:$PATH timeout 300 bash -o pipefail -c "$command" > "$T/out" 2> "$T/err" < /dev/null || found=$?
-    line=${last:+$(tail -n 1 "$T/err")} last=${last//\$T/$T}
+    last=${last//\$T/$T} last=${last//'\n'/$'\n'}
+    line=${last:+$(tail -n "$(wc -l <<< "$last")" "$T/err")}
     count=$((count + 1))
     [ "$found" = "$status" ] && [ "$line" = "$last" ] && { [ -z "$output" ] || cmp -s "$T/out" "${output//\$T/$T}"; } && continue
     echo "after-ci.sh: status $found, to be $status${last:+; last line \`$line\`, to be \`$last\`}${output:+; output of $(wc -c < "$T/out") bytes, to be $output}:" \

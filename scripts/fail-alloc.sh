@@ -51,11 +51,12 @@ only = os.environ.get("REFUSE")
 # isn't stdin. FOLDER is one of its own for each run.
 MIXED, KEYS = f"{top}/examples/mixed.cbor", f"{top}/examples/keys.cbor"
 RUNS = {
-    "cose_gate_cli": [("--strict --verbose keys.cbor 01", None), ("--stream keys.cbor 01", f"{top}/examples/one.cbor"),
+    "cose_gate_cli": [("--strict --verbose keys.cbor 01", None), (f"--keys keys.cbor {MIXED}", None),
+                      ("--stream keys.cbor 01", f"{top}/examples/one.cbor"),
                       ("--stream --payload FOLDER/payload keys.cbor 01", f"{top}/examples/one.cbor")],
     "cose_ask_cli": [("--strict 01", None), ("--lines 01", MIXED), ("--fields 01", MIXED)],
     "cose_pass_cli": [("accepted 01", MIXED)],
-    "cose_sift": [("", MIXED), ("--untag --max 48", MIXED)],
+    "cose_sift": [("", MIXED), (f"--untag --max 48 {MIXED}", None)],
     "cose_show": [(f"--full --keys {KEYS} --aad 01", MIXED), ("--json ARGS", None), ("", KEYS), ("--json", KEYS)],
 }
 bad = 0

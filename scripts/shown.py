@@ -94,7 +94,7 @@ class Maker:
         if kind == 4:
             return self.bytes_of(item)
         if kind == 5:
-            return (24, self.bytes_of(item))
+            return (r.choice([24, 24, 2]), self.bytes_of(item))
         if kind == 6:
             return self.bytes_of("a") + self.bytes_of(item) + r.choice([b"", b"\7", b"\x61\xff"])
         if kind == 7:

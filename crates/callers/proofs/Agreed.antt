@@ -8,7 +8,7 @@ use Rattle.ciborium.specs.Tree.{Tree}
 use Rattle.cose_gate.specs.Findings.{Bounds, usual, Finding, judged, Finds}
 use Rattle.cose_gate.specs.Questions.{Question}
 use Rattle.cose_gate.specs.Run.{Step, Run, passes, passed_count, refused_count}
-use Rattle.cose_gate.specs.Streaming.{CheckedAsUsual}
+use Rattle.cose_gate.specs.Streaming.{CheckedBy}
 use Rattle.callers.proofs.Encoded.{front, read_once}
 use Rattle.callers.specs.Roads.{FirstPasses}
 
@@ -17,7 +17,7 @@ module _ (allows : Question → Bool) (aad : List ℕ) where
   first : {T : Type 0} (decided : T → Question → T) (told told' : T) (room : ℕ) (lengths : List ℕ) (answer : Bool) (b more input : List ℕ)
       → ((t s : Tree) (a b u v : List ℕ) → Spells a t → Spells b s → a ++ u ≡ b ++ v → (t ≡ s) × (a ≡ b))
       → ((limits : Bounds) (b : List ℕ) (t : Tree) (f g : Finding) → Finds limits b t f → Finds limits b t g → f ≡ g)
-      → input ≡ b ++ more → CheckedAsUsual decided allows aad told told' room lengths answer b
+      → input ≡ b ++ more → CheckedBy usual decided allows aad told told' room lengths answer b
       → (ss : List Step) (rest : List ℕ) → Run usual allows aad 0 input ss rest → FirstPasses allows aad ss answer
   first decided told told' room lengths answer b more input one law is c [] rest run =
       absurd (run.items.ends c.item more (record { spelling = b; whole = sym run.items.sequence ∙ is; reads = c.reads }))
@@ -32,7 +32,7 @@ module _ (allows : Question → Bool) (aad : List ℕ) where
   pub first_passes : {T : Type 0} (decided : T → Question → T) (told told' : T) (room : ℕ) (lengths : List ℕ) (answer : Bool) (old new : Option (List ℕ)) (at at' : ℕ) (input : List ℕ)
       → ((t s : Tree) (a b u v : List ℕ) → Spells a t → Spells b s → a ++ u ≡ b ++ v → (t ≡ s) × (a ≡ b))
       → ((limits : Bounds) (b : List ℕ) (t : Tree) (f g : Finding) → Finds limits b t f → Finds limits b t g → f ≡ g)
-      → Moves old new at at' (CheckedAsUsual decided allows aad told told' room lengths answer) → old ≡ Some input
+      → Moves old new at at' (CheckedBy usual decided allows aad told told' room lengths answer) → old ≡ Some input
       → (ss : List Step) (rest : List ℕ) → Run usual allows aad 0 input ss rest → FirstPasses allows aad ss answer
   first_passes decided told told' room lengths answer old new at at' input one law m is ss rest run =
       let b = front old new at at' _ input m is in

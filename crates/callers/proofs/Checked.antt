@@ -11,7 +11,7 @@ use Rattle.cose_gate.specs.Questions.{Question, MessageFields, sign1, mac0, sign
 use Rattle.cose_gate.specs.MacedStructure.{mac0_covered}
 use Rattle.cose_gate.specs.SignedStructure.{sign1_covered}
 use Rattle.cose_gate.specs.Stated.{IsSingle, Cut}
-use Rattle.cose_gate.specs.Streaming.{CheckedAsUsual, CheckedBy}
+use Rattle.cose_gate.specs.Streaming.{CheckedBy}
 use Rattle.cose_gate.specs.Tree.{Tree}
 use Rattle.callers.specs.Checking.{IsAnswered, IsFedInFew}
 
@@ -35,7 +35,7 @@ module _ (allows : Question → Bool) where
 
   module _ {T : Type 0} (decided : T → Question → T) (aad : List ℕ) (told told' : T) (room : ℕ) (lengths : List ℕ) (yes : Bool) where
     pub answered : (b : List ℕ) → ((t : Tree) (m : MessageFields) (aad : List ℕ) → IsJudged usual t m → all_questions m aad ≡ Some (questions m aad))
-        → CheckedAsUsual decided allows aad told told' room lengths yes b → IsAnswered allows aad yes b
+        → CheckedBy usual decided allows aad told told' room lengths yes b → IsAnswered allows aad yes b
     answered b law c =
         let a = asked_once c.message aad c.single (law c.item c.message aad c.is) in
         record { item = c.item; message = c.message; question = a.0; reads = c.reads; is = c.is; asked = a.1; answer = c.answer ∙ a.2 }
@@ -57,7 +57,7 @@ module _ (allows : Question → Bool) where
 pub is_answered : {T E : Type 0} (r : Result Bool E) (ks ks' : List KeyFields) (l l' : Option (List ℕ)) (at at' : ℕ) (decided : T → Question → T)
     (aad : List ℕ) (told told' : T) (room : ℕ) (lengths : List ℕ) → ks' ≡ ks
     → ((t : Tree) (m : MessageFields) (aad : List ℕ) → IsJudged usual t m → all_questions m aad ≡ Some (questions m aad))
-    → IfOk r (λ yes. Moves l l' at at' (CheckedAsUsual decided (says_yes ks') aad told told' room lengths yes))
+    → IfOk r (λ yes. Moves l l' at at' (CheckedBy usual decided (says_yes ks') aad told told' room lengths yes))
     → IfOk r (λ yes. (front : List ℕ) × Consumes l l' front × IsAnswered (says_yes ks) aad yes front)
 is_answered (Ok y) ks ks' l l' at at' decided aad told told' room lengths e law m = (
   m.bytes,

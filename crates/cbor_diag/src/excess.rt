@@ -1,5 +1,6 @@
 //! What keeps an item from being its canonical encoding.
-use crate::head::{Head, head_of};
+use crate::bignum::Bignum;
+use crate::head::Head;
 use crate::walk::{Event, Fault, Step, Walk};
 use ciborium_ll::Header;
 use std::alloc::Global;
@@ -78,39 +79,16 @@ fn excess_of(step: Step, bytes: &[u8]) -> Option<Excess> {
         Header::Array(None) => Some(Excess::OpenArray),
         Header::Map(None) => Some(Excess::OpenMap),
         Header::Simple(23) => Some(Excess::Undefined),
-        Header::Tag(2..=3) => bignum_excess(content(step, bytes)),
+        Header::Tag(2..=3) => bignum_excess(bytes.get(step.at..).unwrap_or(&[])),
         _ => None,
     }
 }
 
-/// What keeps a tag 2 or 3 with this content from being as short as it can be.
-fn bignum_excess(content: &[u8]) -> Option<Excess> {
-    if content.first() == Some(&0x5f) {
-        return Some(Excess::OpenBignum);
-    }
-    if folds(content) {
-        Some(Excess::Bignum)
-    } else {
-        None
-    }
-}
-
-/// The bytes after a head.
-fn content(step: Step, bytes: &[u8]) -> &[u8] {
-    bytes.get(step.at.saturating_add(step.len)..).unwrap_or(&[])
-}
-
-/// Whether the content of a tag 2 or 3 is a byte string of at most 16 bytes whose number has 64
-/// bits or begins with a zero.
-fn folds(content: &[u8]) -> bool {
-    match head_of(content) {
-        Ok(head) => match head.header {
-            Header::Bytes(Some(size)) if size > 8 => {
-                size <= 16 && content.get(head.len) == Some(&0)
-            }
-            Header::Bytes(Some(_)) => true,
-            _ => false,
-        },
-        Err(_) => false,
+/// What keeps an item in tag 2 or 3, whose head is one byte, from being as short as it can be.
+fn bignum_excess(item: &[u8]) -> Option<Excess> {
+    match Bignum::of(item) {
+        Some(bignum) if bignum.folds() => Some(Excess::Bignum),
+        None if item.get(1) == Some(&0x5f) => Some(Excess::OpenBignum),
+        _ => None,
     }
 }

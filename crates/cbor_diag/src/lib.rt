@@ -3,6 +3,7 @@
 //! kept is a list of the levels that are open.
 #![tactic(auto)]
 
+mod bignum;
 mod ends;
 mod escape;
 mod excess;
@@ -10,9 +11,11 @@ mod float;
 mod head;
 mod notation;
 mod page;
+mod role;
 mod view;
 mod walk;
 
+pub use crate::bignum::Bignum;
 pub use crate::ends::Ends;
 pub use crate::escape::{write_char, write_text};
 pub use crate::excess::{Excess, first_excess};
@@ -20,5 +23,6 @@ pub use crate::float::whole_part;
 pub use crate::head::{Head, HeadFault, head_of};
 pub use crate::notation::{CUT, NotWritten, Style, front_text, write_hex, write_item, write_view};
 pub use crate::page::Page;
+pub use crate::role::{CWT, Role, SELF_DESCRIBED, content_role};
 pub use crate::view::{Span, View};
 pub use crate::walk::{Event, Fault, LevelKind, Place, Step, Walk, Why, item_len};

@@ -1,10 +1,12 @@
 //! The notation.
+use crate::bignum::Bignum;
 use crate::escape::write_text;
 use crate::float::{wide, write_float};
-use crate::head::{Head, head_of};
+use crate::head::Head;
 use crate::page::Page;
+use crate::role::Role;
 use crate::view::View;
-use crate::walk::{Event, Fault, LevelKind, Place, Step, Walk, Why};
+use crate::walk::{Event, Fault, LevelKind, Place, Step, Walk, Why, item_len};
 use ciborium_ll::Header;
 use std::alloc::{AllocError, AllocFailed, Global};
 use std::fmt;
@@ -29,8 +31,11 @@ pub struct Style {
     pub widths: bool,
     /// Characters past U+007E are escaped.
     pub ascii: bool,
-    /// Tags 2 and 3 around at most 16 bytes are shown as numbers.
+    /// Bignums of at most 64 bytes in their shortest encoding are shown as numbers.
     pub bignums: bool,
+    /// What is known to hold one item, a protected header or a byte string in tag 24, is shown as
+    /// that item between `<<` and `>>` (RFC 8610, appendix G.3).
+    pub embedded: bool,
     /// Strings of more than 64 bytes are cut to 64, and a comment has their length. Of a string of
     /// open length each piece is cut by itself.
     pub cut: bool,
@@ -41,10 +46,7 @@ impl Style {
     pub fn full() -> Style {
         Style {
             lines: true,
-            widths: true,
-            ascii: false,
-            bignums: false,
-            cut: false,
+            ..Style::line()
         }
     }
 
@@ -55,6 +57,7 @@ impl Style {
             widths: true,
             ascii: false,
             bignums: false,
+            embedded: false,
             cut: false,
         }
     }
@@ -62,24 +65,10 @@ impl Style {
     /// As RFC 8949, Appendix A, writes it.
     pub fn appendix() -> Style {
         Style {
-            lines: false,
             widths: false,
             ascii: true,
             bignums: true,
-            cut: false,
-        }
-    }
-}
-
-impl Style {
-    /// The same with long strings cut.
-    pub fn shortened(self) -> Style {
-        Style {
-            lines: self.lines,
-            widths: self.widths,
-            ascii: self.ascii,
-            bignums: self.bignums,
-            cut: true,
+            ..Style::line()
         }
     }
 }
@@ -171,7 +160,7 @@ pub fn write_view<W: fmt::Write>(
     };
     for _ in 0..u64::MAX {
         let step = walk.step(view.bytes())?;
-        notation.tell(view, step);
+        notation.tell(view, step, &mut walk)?;
         notation.page.end()?;
         if walk.is_done() {
             break;
@@ -181,31 +170,42 @@ pub fn write_view<W: fmt::Write>(
 }
 
 impl<'a, 'p, W: fmt::Write> Notation<'a, 'p, W> {
-    /// Writes one step.
-    fn tell(&mut self, view: View<'_>, step: Step) {
-        let bytes = view.bytes();
+    /// Writes one step of this walk.
+    fn tell(&mut self, view: View<'_>, step: Step, walk: &mut Walk) -> Result<(), Fault> {
         if self.shown > 0 {
             self.shown = self.shown.saturating_sub(1);
-            return;
+            return Ok(());
         }
-        if self.unseen > 0 || is_unseen(view, step) {
+        let item = view.behind(step.at);
+        let is_embedded = self.unseen == 0 && self.is_embedded(item, step);
+        if self.unseen > 0 || (!is_embedded && is_unseen(item, step)) {
             self.leave_out(step);
-            return;
+            return Ok(());
         }
+        self.part(step.place);
         match step.event {
             Event::End(kind) => self.end(kind),
-            Event::Leaf(header) => {
-                self.part(step.place);
-                self.leaf(head_at(header, step));
+            Event::Leaf(header) => self.leaf(head_at(header, step)),
+            Event::Body(header, _) if is_embedded => {
+                self.go_in("<<");
+                return walk.enter(step, head_at(header, step));
             }
             Event::Body(header, size) => {
-                self.part(step.place);
-                self.body(head_at(header, step), body_of(bytes, step, size));
+                self.body(head_at(header, step), body_of(item, step, size));
             }
-            Event::Begin(header) => {
-                self.part(step.place);
-                self.begin(head_at(header, step), behind(bytes, step.at));
+            Event::Begin(header) => self.begin(head_at(header, step), item),
+        }
+        Ok(())
+    }
+
+    /// Whether a step is over a byte string that is shown as the item in it.
+    fn is_embedded(&mut self, item: View<'_>, step: Step) -> bool {
+        match (step.role, step.event) {
+            (Role::Protected | Role::Encoded, Event::Body(Header::Bytes(_), size))
+                if self.style.embedded && !item.is_hidden() => {
+                self.len_of(body_of(item, step, size)) == Some(size)
             }
+            _ => false,
         }
     }
 
@@ -318,13 +318,14 @@ impl<'a, 'p, W: fmt::Write> Notation<'a, 'p, W> {
     }
 
     /// What begins an item with parts.
-    fn begin(&mut self, head: Head, rest: &[u8]) {
+    fn begin(&mut self, head: Head, item: View<'_>) {
+        let bytes = item.bytes();
         match head.header {
-            Header::Array(len) => self.begin_level("[", len.is_none(), head, rest),
-            Header::Map(len) => self.begin_level("{", len.is_none(), head, rest),
-            Header::Tag(number) => self.begin_tag(number, head, rest),
-            Header::Bytes(_) => self.begin_string("''_", rest),
-            Header::Text(_) => self.begin_string("\"\"_", rest),
+            Header::Array(len) => self.begin_level("[", len.is_none(), head, bytes),
+            Header::Map(len) => self.begin_level("{", len.is_none(), head, bytes),
+            Header::Tag(number) => self.begin_tag(number, head, item),
+            Header::Bytes(_) => self.begin_string("''_", bytes),
+            Header::Text(_) => self.begin_string("\"\"_", bytes),
             _ => {}
         }
     }
@@ -334,7 +335,7 @@ impl<'a, 'p, W: fmt::Write> Notation<'a, 'p, W> {
         let on_one_line = !self.style.lines
             || self.flat > 0
             || self.indent >= DEEP
-            || self.is_short(rest);
+            || self.len_of(rest.get(..SHORT).unwrap_or(rest)).is_some();
         let wide = head.wide();
         if is_open {
             self.page.write_str("_");
@@ -351,49 +352,40 @@ impl<'a, 'p, W: fmt::Write> Notation<'a, 'p, W> {
         }
     }
 
-    /// Whether the item that the bytes begin with is short.
-    fn is_short(&mut self, bytes: &[u8]) -> bool {
-        let front = bytes.get(..SHORT).unwrap_or(bytes);
-        let mut walk = Walk::new(self.alloc);
-        match walk.advance(front) {
-            Ok(_) => true,
+    /// The length of the item that the bytes begin with, if it is whole.
+    fn len_of(&mut self, bytes: &[u8]) -> Option<usize> {
+        match item_len(self.alloc, bytes) {
+            Ok(len) => Some(len),
             Err(fault) => {
                 if fault.why == Why::Memory {
                     self.page.note(NotWritten::Memory);
                 }
-                false
+                None
             }
         }
     }
 
-    fn begin_tag(&mut self, number: u64, head: Head, rest: &[u8]) {
-        if self.style.bignums {
-            if let Some(count) = bignum(number, head, rest) {
-                self.shown = 2;
-                self.number(number, count);
-                return;
-            }
+    fn begin_tag(&mut self, number: u64, head: Head, item: View<'_>) {
+        if self.style.bignums
+            && let Some(bignum) = Bignum::of(item.bytes())
+            && bignum.has_decimal()
+            && !item.front(bignum.len).holds_hidden()
+        {
+            self.shown = 2;
+            bignum.write(self.page);
+            return;
         }
         write!(self.page, "{number}");
         self.indicator(head.wide());
+        self.go_in("(");
+    }
+
+    /// Begins what holds one item, and is on lines as that is.
+    fn go_in(&mut self, mark: &str) {
         if self.flat > 0 {
             self.flat = self.flat.saturating_add(1);
         }
-        self.page.write_str("(");
-    }
-
-    /// The number that a bignum is.
-    fn number(&mut self, tag: u64, count: u128) {
-        if tag == 2 {
-            write!(self.page, "{count}");
-            return;
-        }
-        match count.checked_add(1) {
-            Some(size) => write!(self.page, "-{size}"),
-            None => self
-                .page
-                .write_str("-340282366920938463463374607431768211456"),
-        }
+        self.page.write_str(mark);
     }
 
     /// An open string; one without pieces has a form of its own.
@@ -411,21 +403,24 @@ impl<'a, 'p, W: fmt::Write> Notation<'a, 'p, W> {
     fn end(&mut self, kind: LevelKind) {
         let on_one_line = self.flat > 0;
         self.flat = self.flat.saturating_sub(1);
-        if !on_one_line && kind != LevelKind::Tag {
+        if !on_one_line && matches!(kind, LevelKind::Array | LevelKind::Map) {
             self.indent = self.indent.saturating_sub(1);
             self.line();
         }
         self.page.write_str(match kind {
             LevelKind::Array => "]",
             LevelKind::Map => "}",
+            LevelKind::Embedded(_) => ">>",
             _ => ")",
         });
+        if let LevelKind::Embedded(width) = kind {
+            self.indicator(width);
+        }
     }
 }
 
 /// Whether an item that isn't shown begins with this step, or a byte string that holds one.
-fn is_unseen(view: View<'_>, step: Step) -> bool {
-    let item = view.behind(step.at);
+fn is_unseen(item: View<'_>, step: Step) -> bool {
     match step.event {
         Event::End(_) => false,
         Event::Body(Header::Bytes(_), size) => item
@@ -443,43 +438,9 @@ fn head_at(header: Header, step: Step) -> Head {
     }
 }
 
-/// The bytes from a place on.
-fn behind(bytes: &[u8], at: usize) -> &[u8] {
-    bytes.get(at..).unwrap_or(&[])
-}
-
-/// So many bytes after the head of a step.
-fn body_of(bytes: &[u8], step: Step, size: usize) -> &[u8] {
-    let rest = behind(bytes, step.at.saturating_add(step.len));
-    rest.get(..size).unwrap_or(rest)
-}
-
-/// The number of a bignum's bytes (RFC 8949, section 3.4.3): tag 2 or 3 around a byte string of
-/// stated length of at most 16 bytes.
-fn bignum(number: u64, head: Head, rest: &[u8]) -> Option<u128> {
-    if number != 2 && number != 3 {
-        return None;
-    }
-    let string_bytes = behind(rest, head.len);
-    let Ok(string) = head_of(string_bytes) else {
-        return None;
-    };
-    match string.header {
-        Header::Bytes(Some(size)) if size <= 16 => {
-            let body = behind(string_bytes, string.len);
-            body.get(..size).map(number_of)
-        }
-        _ => None,
-    }
-}
-
-/// At most 16 bytes as a number.
-fn number_of(bytes: &[u8]) -> u128 {
-    let mut number = 0u128;
-    for byte in bytes {
-        number = number.wrapping_mul(256).wrapping_add(u128::from(*byte));
-    }
-    number
+/// So many bytes of an item after the head of this step.
+fn body_of(item: View<'_>, step: Step, size: usize) -> &[u8] {
+    item.behind(step.len).front(size).bytes()
 }
 
 /// The front of a text of more than 64 bytes: as many of its characters as have at most 64 bytes.

@@ -1,5 +1,6 @@
 //! A walk over the heads of one item.
 use crate::head::{Head, HeadFault, head_of};
+use crate::role::{Inside, Role, content_role, inside_of};
 use cbor_walk::body_of;
 use ciborium_ll::Header;
 use std::alloc::Global;
@@ -60,6 +61,8 @@ pub enum LevelKind {
     Bytes,
     /// A text string of open length.
     Text,
+    /// A byte string that was entered, and the encoding indicator of its head.
+    Embedded(Option<u8>),
 }
 
 /// Where an item is in the one around it.
@@ -108,6 +111,8 @@ pub struct Step {
     pub event: Event,
     /// Where it is in what is around it; of an end this says nothing.
     pub place: Place,
+    /// What it is in a message; of an end this says nothing.
+    pub role: Role,
     /// Where it is in the bytes.
     pub at: usize,
     /// How many bytes its head takes.
@@ -118,6 +123,7 @@ pub struct Step {
 #[derive(Debug, Clone, Copy, PartialEq, Eq)]
 struct Level {
     kind: LevelKind,
+    inside: Inside,
     /// How many items it has, keys and values of a map. None of an open length.
     len: Option<usize>,
     /// How many have come.
@@ -139,6 +145,8 @@ pub struct Walk {
     at: usize,
     /// Whether a text may be no UTF-8.
     any_text: bool,
+    /// What an item is that nothing is around.
+    top: Role,
 }
 
 impl Walk {
@@ -148,15 +156,17 @@ impl Walk {
             levels: Vec::new(alloc),
             at: 0,
             any_text: false,
+            top: Role::Top,
         }
     }
 
-    /// The same over heads alone: a text may be no UTF-8.
-    pub fn over_heads(alloc: Global) -> Walk {
+    /// The same over heads alone, of items that are this in a message: a text may be no UTF-8.
+    pub fn over_heads(alloc: Global, top: Role) -> Walk {
         Walk {
             levels: Vec::new(alloc),
             at: 0,
             any_text: true,
+            top,
         }
     }
 
@@ -193,6 +203,25 @@ impl Walk {
             Err(HeadFault::NoHead) => Err(self.fault(Why::NoHead)),
             Err(HeadFault::Cut) => Err(self.fault(Why::Cut)),
         }
+    }
+
+    /// Goes into the byte string with this head, which the last step was over and which holds one
+    /// item.
+    ///
+    /// # Errors
+    /// `Memory`.
+    pub fn enter(&mut self, step: Step, head: Head) -> Result<(), Fault> {
+        let level = Level {
+            kind: LevelKind::Embedded(head.wide()),
+            inside: Inside::Each(content_role(step.role)),
+            len: Some(1),
+            count: 0,
+        };
+        if self.levels.push(level).is_err() {
+            return Err(self.fault(Why::Memory));
+        }
+        self.at = step.at.saturating_add(head.len);
+        Ok(())
     }
 
     /// Goes to the end of the item, and gives its length.
@@ -235,6 +264,7 @@ impl Walk {
         Step {
             event: Event::End(kind),
             place: Place::Top,
+            role: Role::Plain,
             at,
             len,
         }
@@ -304,28 +334,29 @@ impl Walk {
             return Err(self.fault(Why::Memory));
         }
         let at = self.at;
-        let place = self.next_place();
+        let (place, role) = self.next_place();
         self.at = next;
         let event = event_of(head.header);
-        if let Some(level) = level_of(head.header) {
+        if let Some(level) = level_of(head.header, role) {
             let _ = self.levels.push(level);
         }
         Ok(Step {
             event,
             place,
+            role,
             at,
             len: head.len,
         })
     }
 
-    /// The place of the next item, which is taken.
-    fn next_place(&mut self) -> Place {
+    /// The place of the next item, which is taken, and what the item is.
+    fn next_place(&mut self) -> (Place, Role) {
         let Some(level) = self.levels.last_mut() else {
-            return Place::Top;
+            return (Place::Top, self.top);
         };
-        let place = place_in(*level);
+        let taken = (place_in(*level), level.inside.role_of(level.count));
         level.count = level.count.saturating_add(1);
-        place
+        taken
     }
 }
 
@@ -336,7 +367,7 @@ fn place_in(level: Level) -> Place {
         LevelKind::Array => Place::Element { first },
         LevelKind::Map if level.value_due() => Place::Value,
         LevelKind::Map => Place::Key { first },
-        LevelKind::Tag => Place::Content,
+        LevelKind::Tag | LevelKind::Embedded(_) => Place::Content,
         LevelKind::Bytes => Place::Chunk { first },
         LevelKind::Text => Place::Chunk { first },
     }
@@ -354,7 +385,7 @@ fn event_of(header: Header) -> Event {
     }
 }
 
-fn level_of(header: Header) -> Option<Level> {
+fn level_of(header: Header, role: Role) -> Option<Level> {
     let (kind, len) = match header {
         Header::Array(len) => (LevelKind::Array, len),
         Header::Map(len) => (LevelKind::Map, len.map(|n| n.saturating_mul(2))),
@@ -365,6 +396,7 @@ fn level_of(header: Header) -> Option<Level> {
     };
     Some(Level {
         kind,
+        inside: inside_of(header, role),
         len,
         count: 0,
     })

@@ -4,7 +4,7 @@ use crate::words;
 use ciborium_value::Value;
 use cose_gate::{About, Header, HmacJudge, Judge, MessageKind, ProtectedHeader};
 use cose_gate_program::is_good_tag;
-use cose_reasons::{KeyBook, Look, Question, reason};
+use cose_reasons::{Headers, KeyBook, Look, Question, reason};
 use coset_keys::CoseKeySet;
 use coset_labels::CborSerializable;
 
@@ -102,9 +102,11 @@ pub fn why(to: &mut Out, row: &mut &str) {
     to.yes_or_no(judge.decide(&tag));
     to.text(": ");
     let question = Question {
-        protected: &case.protected,
-        unprotected: &case.unprotected,
-        hides_id: false,
+        headers: Headers {
+            protected: &case.protected,
+            unprotected: &case.unprotected,
+            hides_id: false,
+        },
         covered: case.covered.as_slice(),
         tag: tag.as_slice(),
         aad_len,

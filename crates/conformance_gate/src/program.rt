@@ -3,7 +3,9 @@ use crate::out::{NoAnswer, Out};
 use crate::words;
 use ciborium_ll::Io;
 use cose_gate::{Mem, Write};
-use cose_gate_command::{KeyFile, NotRun, Note, ask, ended, pass};
+use cose_gate_command::{
+    KeyFile, NOT_UTF8, NotRun, Note, Usage, Wrong, ask, ask_arguments, ended, pass, pass_arguments,
+};
 use cose_stream::{
     EndTeller, StreamEnd, StreamTerms, end_status, end_wrong, stream, stream_arguments, tell_end,
 };
@@ -112,7 +114,8 @@ fn asked(to: &mut Out, keys: Option<&[u8]>, row: &mut &str) {
         &mut out,
         &mut err,
     );
-    add_end(to, end, shown(&out), shown(&err));
+    let usage = usage_of("cose-ask", ask_arguments(&all));
+    add_end(to, end, usage, shown(&out), shown(&err));
 }
 
 /// The same, if the output takes four bytes, in blocks of 256.
@@ -128,7 +131,8 @@ pub fn ask_command_full(to: &mut Out, row: &mut &str) {
     let mut reader = input.as_slice();
     let end = ask(to.alloc(), &all, None, "", &mut reader, &mut out, &mut err);
     let (taken, _) = out.into_inner().into_parts();
-    add_end(to, end, &taken.into_inner(), shown(&err));
+    let usage = usage_of("cose-ask", ask_arguments(&all));
+    add_end(to, end, usage, &taken.into_inner(), shown(&err));
 }
 
 /// The program `cose-pass` by the arguments of a command line, over what the file ACCEPTED holds.
@@ -146,7 +150,20 @@ pub fn pass_command(to: &mut Out, row: &mut &str) {
         &mut out,
         &mut err,
     );
-    add_end(to, end, shown(&out), shown(&err));
+    let usage = usage_of("cose-pass", pass_arguments(&all));
+    add_end(to, end, usage, shown(&out), shown(&err));
+}
+
+/// Wrong arguments of a program.
+fn usage_of<'a, T: Copy>(program: &'a str, asked: Result<T, Wrong<'a>>) -> Usage<'a> {
+    Usage {
+        line: "usage\n",
+        program,
+        wrong: match asked {
+            Err(wrong) => wrong,
+            Ok(_) => NOT_UTF8,
+        },
+    }
 }
 
 /// The program `cose-gate` by the arguments of a command line with `--stream`: its status, the
@@ -217,10 +234,10 @@ fn key_file<'a>(name: &'a str, bytes: Option<&'a [u8]>) -> KeyFile<'a> {
     }
 }
 
-/// Appends how a program ended, with the line of why it didn't run.
-fn add_end(to: &mut Out, end: Result<u8, NotRun>, out: &[u8], err: &[u8]) {
+/// Appends how a program ended, with the lines of why it didn't run.
+fn add_end(to: &mut Out, end: Result<u8, NotRun>, usage: Usage<'_>, out: &[u8], err: &[u8]) {
     let mut line = Mem::new(Vec::new(to.alloc()));
-    let status = ended(end, "usage", &mut line);
+    let status = ended(end, usage, &mut line);
     add_ended(to, status, out, err);
     match std::str::from_utf8(line.as_written()) {
         Ok(said) => to.lines(said),

@@ -1,48 +1,32 @@
-//! `cose-ask [--strict] [--lines] [--fields] [AADHEX]`: reads a CBOR sequence from standard input,
-//! and writes the records of all questions that the gate asks about it to standard output. AADHEX
-//! is the external data in hex. `cose-ask --keys KEYS [--strict] [AADHEX] [--cwt TERMS]`: writes a
-//! block for each item, with the questions that the rules allow under the keys of the file KEYS,
-//! and with `--cwt` of tokens that pass by TERMS.
+//! `cose-ask [--strict] [--lines] [--fields] [AADHEX]`, or with `--aad AADHEX [FILE]`: reads a CBOR
+//! sequence from FILE or standard input, and writes the records of all questions that the gate asks
+//! about it to standard output. AADHEX is the external data in hex. `cose-ask --keys KEYS`, with
+//! `[--strict] [--aad AADHEX] [--cwt TERMS] [FILE]`: writes a block for each item, with the
+//! questions that the rules allow under the keys of the file KEYS, and with `--cwt` of tokens that
+//! pass by TERMS.
 #![tactic(auto)]
 
 use ciborium_ll::Io;
 use cose_gate_command::{
-    Content, NotRun, Takes, ask, ask_arguments, ended, page_for, read_in_blocks, say_wrong,
-    words_of, write_in_blocks, write_page,
+    Content, NOT_UTF8, NotRun, Usage, ask, ask_arguments, ended, open_input, page_for,
+    read_in_blocks, words_of, write_in_blocks, write_page,
 };
 use cose_gate_program::Blocks;
 use std::process::ExitCode;
 use std::{env, fs};
 
-/// The line for other arguments.
-const USAGE: &str = "usage: cose-ask [AADHEX]\n";
-
-/// Its arguments.
-const ASK: Takes<'static> = Takes {
-    program: "cose-ask",
-    options: &[
-        "--strict",
-        "--lines",
-        "--fields",
-        "--cwt",
-        "--any-aud",
-        "--need",
-    ],
-    named: &["--keys", "--at", "--leeway", "--iss", "--aud"],
-    first: "",
-    most: 1,
-};
-
 /// What `--version` prints.
 const VERSION: &str = "cose-ask 0.8\n";
 
-/// What `-h` and `--help` print. The script `cose-ask` prints the same.
+/// What `-h` and `--help` print. `scripts/run.sh` takes it from here.
 const HELP: &str = "\
 usage: cose-ask [--strict] [--lines] [--fields] [AADHEX] < INPUT > QUESTIONS
-       cose-ask --keys KEYS [--strict] [AADHEX] [--cwt TERMS] < INPUT > BLOCKS
+       cose-ask [OPTION..] --aad AADHEX [FILE] > QUESTIONS
+       cose-ask --keys KEYS [--strict] [--aad AADHEX] [--cwt TERMS] [FILE] > BLOCKS
 Reads a CBOR sequence, and writes a record for each signature and MAC that has to
 be checked. Check them, and give the records of the good ones to cose-pass.
-AADHEX: the external data in hex, empty if it is left out.
+AADHEX: the external data in hex, empty if it is left out. FILE: the input; it is
+standard input if it is left out. Options may be anywhere; after -- no word is one.
   --lines   a line of text for each record, with these fields:
             KIND PROTECTED UNPROTECTED SIGNER_PROTECTED SIGNER_UNPROTECTED
             RECIPIENTS COVERED SIGNATURE RECORD
@@ -52,21 +36,22 @@ AADHEX: the external data in hex, empty if it is left out.
   --fields  lines that have three fields more, after KIND: ALG=-7, the number of
             the protected algorithm; KID=, the key id in hex; CRIT=unknown if a
             critical label isn't 1, 2 or 4. ALG=tstr is no number, - is for none.
-  --keys    (in front) a block for each item, binary, with what to check of it by
+  --keys    a block for each item, binary, with what to check of it by
             the rules for headers and keys: see cose-ask(1). KEYS: a file with a
             COSE_KeySet. Check the signatures under the keys that a block names,
             and give the digests of good ones to cose-pass --digests.
-  --cwt     (at the end) a block has nothing to check if the payload isn't a claims
-            set that passes by TERMS, which have this order:
+  --cwt     a block has nothing to check if the payload isn't a claims set that passes
+            by TERMS:
             --at SECONDS [--leeway SECONDS] [--iss ISS] [--aud AUD | --any-aud]
             [--need CLAIM..]
-            SECONDS are since 1970. CLAIM is iss, sub, aud, exp, nbf, iat or cti,
+            SECONDS are since 1970. --need comes last: each word after it is a claim
+            that has to be there. CLAIM is iss, sub, aud, exp, nbf, iat or cti,
             or a claim whose label is this text.
   --strict  refuse messages that are not in canonical encoding
 Standard error has a line for each item, as if every signature were good.
 Status 0: no item was refused. 1: some were. 2: wrong arguments, or AADHEX is not
-hex. 3: KEYS can't be read, or is no key set. 4: the input is not CBOR, input or
-output failed, or out of memory.
+hex. 3: KEYS or FILE can't be read, or KEYS is no key set. 4: the input is not CBOR,
+input or output failed, or out of memory.
 ";
 
 fn main(rt: HostRuntime) -> ExitCode {
@@ -78,12 +63,15 @@ fn main(rt: HostRuntime) -> ExitCode {
 
 /// Says why a run with these arguments, if they can be read, didn't come to its end.
 fn finish(rt: &HostRuntime, end: Result<u8, NotRun>, words: Option<&[String]>) -> ExitCode {
-    let mut err = Io::new(rt.stderr());
-    let status = ended(end, USAGE, &mut err);
-    if let Err(NotRun::Usage) = end {
-        say_wrong(rt.alloc(), words, &ASK, &mut err);
-    }
-    ExitCode::from(status)
+    let usage = Usage {
+        line: "usage: cose-ask [AADHEX]\n",
+        program: "cose-ask",
+        wrong: match words.map(ask_arguments) {
+            Some(Err(wrong)) => wrong,
+            _ => NOT_UTF8,
+        },
+    };
+    ExitCode::from(ended(end, usage, &mut Io::new(rt.stderr())))
 }
 
 /// Runs the program, and returns its status.
@@ -91,22 +79,28 @@ fn start(rt: &HostRuntime, words: &[String]) -> Result<u8, NotRun> {
     if let Some(page) = page_for(words, HELP, VERSION) {
         return write_page(page, &mut Io::new(rt.stdout()));
     }
-    let keys = read_keys(rt, words)?;
-    run(rt, words, keys)
+    let Ok(asked) = ask_arguments(words) else {
+        return Err(NotRun::Usage);
+    };
+    let keys = match asked.keys {
+        Some(keys) => Content::of_file(fs::read(rt, keys))?,
+        None => Content::none(""),
+    };
+    run(rt, words, asked.file, keys)
 }
 
-/// What the file KEYS holds, if the arguments name one.
-fn read_keys(rt: &HostRuntime, words: &[String]) -> Result<Content, NotRun> {
-    match ask_arguments(words).and_then(|asked| asked.keys) {
-        Some(keys) => Content::of_file(fs::read(rt, keys)),
-        None => Ok(Content::none("")),
-    }
-}
-
-/// Runs it over the file KEYS and the standard streams.
-fn run(rt: &HostRuntime, words: &[String], keys: Content) -> Result<u8, NotRun> {
+/// Runs it over the file KEYS, FILE or standard input, and the other standard streams.
+fn run(
+    rt: &HostRuntime,
+    words: &[String],
+    file: Option<&str>,
+    keys: Content,
+) -> Result<u8, NotRun> {
     let alloc = rt.alloc();
-    let input = read_in_blocks(alloc, rt.stdin())?;
+    let input = match open_input(rt, rt.stdin(), file, &mut Io::new(rt.stderr())) {
+        Ok(input) => read_in_blocks(alloc, input)?,
+        Err(status) => return Ok(status),
+    };
     let mut output = write_in_blocks(alloc, rt.stdout())?;
     let mut lines = write_in_blocks(alloc, rt.stderr())?;
     ask(

@@ -1,17 +1,13 @@
 -- A text that is written in pieces.
-use Rattle.std.proofs.Common.{◌≡◌, ℕ, ◌+◌, List, [], ◌++◌, Result, Ok, Err, OnOk, OnErr, refl, ap, ◌∙◌}
+use Rattle.std.proofs.Common.{◌≡◌, ℕ, ◌+◌, List, ◌++◌, Result, Ok, Err, OnOk, OnErr, ap, ◌∙◌}
 use Rattle.std.specs.Io.KnownBytes.{Appends}
-use Rattle.std.proofs.KnownBytes.{Appends-nil, Appends-trans}
+use Rattle.std.proofs.KnownBytes.{Appends-trans}
 use Rattle.ciborium_ll.specs.Device.{AppendsFront, write_failures}
 use Rattle.ciborium_ll.specs.declared.write.Write.{Ghosts as Writes}
 use Rattle.ciborium_ll.proofs.Appending.{front_then, then_front}
 use Rattle.cose_gate.specs.Streaming.{WritesAll}
 
 module _ {W F : Type 0} (w : Writes W F) where
-  -- nothing is written yet
-  pub none_written : (old : W) → WritesAll {T = Unit {0}} w old old (Ok tt) []
-  none_written old = record { ok = Appends-nil (w.written old); err = tt; failed = refl }
-
   -- one piece more
   pub one_written : (old mid new : W) (r : Result (Unit {0}) F) (b piece : List ℕ) → WritesAll {T = Unit {0}} w old mid (Ok tt) b
       → OnOk r (Appends (w.written mid) (w.written new) piece) → OnErr r (AppendsFront (w.written mid) (w.written new) piece)

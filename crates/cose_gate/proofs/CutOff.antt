@@ -12,7 +12,8 @@ use Rattle.cose_gate_core.specs.Findings.{Bounds}
 use Rattle.cose_gate_core.specs.Questions.{Subject}
 use Rattle.cose_gate.specs.declared.form.Form.{Form}
 use Rattle.cose_gate.specs.ElementFaults.{CopiedNext}
-use Rattle.cose_gate.specs.Streaming.{WritesAll, IsProtected, IsHeaderItem, RightUpTo, BeginsPayload, CopiedPart, part_copied}
+use Rattle.cose_gate.specs.Opening.{IsProtected, IsHeaderItem, RightUpTo, BeginsPayload}
+use Rattle.cose_gate.specs.Streaming.{WritesAll, CopiedPart, part_copied}
 use Rattle.cose_gate.proofs.Fed.{Fed}
 use Rattle.cose_gate.proofs.Whole.{Within}
 use Rattle.cose_gate.proofs.Wrong.{right_up_to}
@@ -44,11 +45,10 @@ module _ {W F : Type 0} (w : Writes W F) where
       place (Some x) (Some y) (Some z) t s h = record {
         size = size;
         opening = record {
-          count = o;
           headers = one_more a (one_more b no_trees);
           third = y;
           behind = z;
-          right = subst (λ (q : List ℕ). RightUpTo limits q o (one_more a (one_more b no_trees)) y) (sym t.taken) (right_up_to limits f o (one_more a (one_more b no_trees)) t.bytes y t.has (first, second, tt));
+          right = subst (λ (q : List ℕ). RightUpTo limits q (one_more a (one_more b no_trees)) y) (sym t.taken) (right_up_to limits f o (one_more a (one_more b no_trees)) t.bytes y t.has (first, second, tt));
           are_two = refl;
           title = record { title = s.bytes; is_title = s.has; whole = s.taken };
         };

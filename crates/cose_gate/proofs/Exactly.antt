@@ -1,5 +1,5 @@
 -- Where a judged message of a stated length begins, nothing but Ok is due.
-use Rattle.std.proofs.Common.{◌≡◌, ◌+◌, inl, inr, ℕ, Bool, List, ◌++◌, length, Option, None, Some, Result, Ok, Err, IfErr, refl, sym, ap, subst, ◌∙◌, false}
+use Rattle.std.proofs.Common.{◌≡◌, ◌+◌, inl, inr, ℕ, Bool, List, ◌++◌, length, Option, None, Some, Result, Ok, Err, IfErr, sym, ap, subst, ◌∙◌, false}
 use Rattle.ciborium_ll.specs.declared.hdr.Header.{Header}
 use Rattle.ciborium_ll.specs.declared.hdr.Header.TheVariants.{Tag, Bytes, Array, Simple}
 use Rattle.ciborium_ll.specs.Seen.{Seen}
@@ -14,13 +14,15 @@ use Rattle.ciborium.proofs.Excludes.{excludes}
 use Rattle.ciborium.proofs.ChildLemmas.{all_count}
 use Rattle.coset_labels.specs.Faults.{CoseFault, unexpected}
 use Rattle.cose_gate_core.specs.Questions.{MessageFields}
-use Rattle.cose_gate_core.specs.Findings.{Bounds, IsJudged, within}
+use Rattle.cose_gate_core.specs.Findings.{Bounds, IsJudged, within, usual}
 use Rattle.cose_gate_core.specs.Misshapen.{IsMisshapen}
 use Rattle.cose_gate_core.proofs.Unique.{no_message}
 use Rattle.cose_gate.specs.declared.fault.StreamFault.{StreamFault}
 use Rattle.cose_gate.specs.declared.fault.StreamFault.TheVariants as fault
 use Rattle.cose_gate.specs.Stated.{IsSingle, IsSingleTag, Stated, closing}
-use Rattle.cose_gate.specs.Streaming.{NamesWhy, Unstreamed, UnstreamedBy, IsShapeFault, MessageOpening, TellsFault, IsLongFor, Answered}
+use Rattle.cose_gate.specs.Opening.{IsShapeFault, MessageOpening}
+use Rattle.cose_gate.specs.StreamFaults.{NamesWhy, TellsFault, IsLongFor}
+use Rattle.cose_gate.specs.Streaming.{UnstreamedBy, Answered}
 use Rattle.cose_gate.proofs.Faults.{Names}
 use Rattle.cose_gate.proofs.Forms.{shaped, not_four_items, form_by}
 use Rattle.cose_gate.proofs.Lengths.{stated_whole}
@@ -32,10 +34,10 @@ stated_first b front rest r n h s e t = (split_heads t.title s.tag_title r _ h (
 stated_third : (limits : Bounds) (b front rest : List ℕ) (n : ℕ) (h : Header) → Stated front n → b ≡ front ++ rest → MessageOpening limits b h → h ≡ Bytes (Some n)
 stated_third limits b front rest n h s e o =
     let tail : List ℕ = (s.payload ++ (s.last ++ closing s.count)) ++ rest in
-    let p = o.right in
+    let p = o.right.begins in
     let a = split_heads p.tag_first.title s.tag_title p.inside (s.array_title ++ (s.headers ++ (s.length_title ++ tail))) (Tag p.number) (Tag s.number) p.tag_first.is_title s.is_tag (sym p.tag_first.whole ∙ stated_whole b front rest n s e) in
-    let c = split_heads p.array_next.title s.array_title p.items (s.headers ++ (s.length_title ++ tail)) (Array o.count) (Array s.count) p.array_next.is_title s.is_array (sym p.array_next.whole ∙ a.rests) in
-    let f = p.fronts in
+    let c = split_heads p.array_next.title s.array_title p.items (s.headers ++ (s.length_title ++ tail)) (Array p.count) (Array s.count) p.array_next.is_title s.is_array (sym p.array_next.whole ∙ a.rests) in
+    let f = o.right.fronts in
     let d : tree_count f.reads.trees ≡ 2 = all_count f.reads.trees o.headers f.reads.means ∙ o.are_two in
     let none : o.third ≡ s.length_title ++ tail = behind_two f.reads.trees s.two o.third (s.length_title ++ tail) f.spelling s.headers f.reads.spells s.spells d s.are_two (sym f.whole ∙ c.rests) in
     (split_heads o.title.title s.length_title o.behind tail h (Bytes (Some n)) o.title.is_title s.is_length (sym o.title.whole ∙ none)).heads
@@ -44,7 +46,7 @@ stated_third limits b front rest n h s e o =
 misshapen : (limits : Bounds) (b : List ℕ) (t : Tree) (e : CoseFault) → IsShapeFault limits b t e → (f : CoseFault) × IsMisshapen limits t f
 misshapen limits b t e (inl m) = (e, m)
 misshapen limits b t e (inr (ts, other, _)) =
-    let f = form_by other.number other.is_single in
+    let f = form_by other.begins.number other.begins.is_single in
     (unexpected, shaped limits f.0 t (array ts) unexpected (other.is ∙ ap (λ z. tag z (array ts)) f.1) (not_four_items limits f.0 ts other.other))
 
 module _ (levels layers : ℕ) {E : Type 0} (ends : E → Bool) (b : List ℕ) (o room : ℕ) (t : Tree) (front rest : List ℕ) (m : MessageFields) (n : ℕ) (e : b ≡ front ++ rest) (reads : Reads front levels t) (j : IsJudged (within levels layers false) t m) (s : Stated front n) where
@@ -74,6 +76,6 @@ answered levels layers ends (Some b) o room (Err f) k = λ t front rest m n e re
 
 -- within the default limits
 pub usual_err : {E : Type 0} (ends : E → Bool) (levels layers room : ℕ) (s : Seen) (r : Result Bool (StreamFault E)) → levels ≡ 256 → layers ≡ 16
-    → IfErr r (NamesWhy ends (UnstreamedBy (within levels layers false)) room s) → IfErr r (NamesWhy ends Unstreamed room s)
+    → IfErr r (NamesWhy ends (UnstreamedBy (within levels layers false)) room s) → IfErr r (NamesWhy ends (UnstreamedBy usual) room s)
 usual_err ends levels layers room s r e f k =
     subst (λ (z : ℕ). IfErr r (NamesWhy ends (UnstreamedBy (within z 16 false)) room s)) e (subst (λ (z : ℕ). IfErr r (NamesWhy ends (UnstreamedBy (within levels z false)) room s)) f k)

@@ -10,7 +10,7 @@ use Rattle.coset_labels.specs.declared.error.CoseError.{CoseError}
 use Rattle.coset_labels.specs.declared.error.CoseError.TheVariants as cose
 use Rattle.cose_gate.specs.declared.fault.StreamFault.{StreamFault}
 use Rattle.cose_gate.specs.declared.fault.StreamFault.TheVariants as fault
-use Rattle.cose_gate.specs.Streaming.{IsFarFor, fault_by, shape_by}
+use Rattle.cose_gate.specs.StreamFaults.{IsFarFor, fault_by, shape_by}
 use Rattle.cose_gate.specs.ElementFaults.{IsUnexpected}
 
 -- with more bytes at a time

@@ -24,7 +24,7 @@ use Rattle.coset_labels.specs.declared.error.CoseError.{CoseError}
 use Rattle.coset_labels.specs.declared.error.CoseError.TheVariants as cose
 use Rattle.cose_gate.specs.declared.fault.StreamFault.{StreamFault}
 use Rattle.cose_gate.specs.declared.fault.StreamFault.TheVariants as fault
-use Rattle.cose_gate.specs.Streaming.{Why, damaged, untagged, tagged, shape, without_payload, without_length, refused, HoldsNoMemory, TellsFault, IsLongFor, fault_by, shape_by}
+use Rattle.cose_gate.specs.StreamFaults.{Why, damaged, untagged, tagged, shape, without_payload, without_length, refused, HoldsNoMemory, TellsFault, IsLongFor, fault_by, shape_by}
 use Rattle.cose_gate.specs.ElementFaults.{TitleFault, PartFault, NoBreak, IsUnexpected, WrongPart}
 
 -- what a fault says if l was left and o was the offset

@@ -1,14 +1,13 @@
 -- The payload on its way to the judge.
-use Rattle.std.proofs.Common.{◌≡◌, ◌+◌, ◌-◌, ◌≤◌, ◌<◌, ◌^◌, ℕ, List, [], ◌∷◌, ◌++◌, length, Option, Some, refl, sym, ap, subst, ◌∙◌, arith, append_assoc, length-append}
+use Rattle.std.proofs.Common.{◌≡◌, ◌+◌, ◌-◌, ◌<◌, ℕ, List, [], ◌∷◌, ◌++◌, length, Option, Some, refl, sym, ap, subst, ◌∙◌, arith, append_assoc, length-append}
 use Rattle.std.specs.Prelude.{min, take}
 use Rattle.std.proofs.lemmas.List.{take_at}
 use Rattle.std.specs.Io.KnownBytes.{Consumes}
 use Rattle.ciborium_ll.specs.Reading.{Moves}
 use Rattle.ciborium_ll.specs.Title.{title_of}
 use Rattle.ciborium_ll.specs.declared.hdr.Header.TheVariants.{Bytes}
-use Rattle.ciborium_ll.specs.declared.hdr.Error.TheVariants as below
 use Rattle.ciborium.proofs.Once.{append_nil}
-use Rattle.ciborium.proofs.Taking.{takes_then, takes_as, takes_none}
+use Rattle.ciborium.proofs.Taking.{takes_then}
 use Rattle.cose_gate_core.specs.Questions.{Subject}
 use Rattle.cose_gate.specs.Stated.{Cut}
 use Rattle.cose_gate.specs.ElementFaults.{Split}
@@ -22,9 +21,6 @@ abbrev pub Begun : ℕ → ℕ → ℕ → List ℕ → List ℕ → Type 0
 Begun room size due old new = (pieces : List ℕ) × (new ≡ old ++ pieces) × ((more : List ℕ) → Cut room due more → Cut room size (pieces ++ more))
 
 module _ {J : Type 0} (holds : J → Subject → List ℕ → Type 0) where
-  pub fed_start : (j : J) (P : List ℕ → Type 0) (size : ℕ) (l : Option (List ℕ)) (o : ℕ) → P [] → Moves l l o o (Fed holds j j P size size)
-  fed_start j P size l o p = takes_none l o _ (omega arith, ((λ subject bytes h. subst (λ (z : List ℕ). holds j subject z) (append_nil bytes) h), p))
-
   pub fed_more : (a b c : J) (P Q : List ℕ → Type 0) (size due due' count : ℕ) (l₀ l₁ l₂ : Option (List ℕ)) (o₀ o₁ o₂ : ℕ) (read piece : List ℕ) → Moves l₀ l₁ o₀ o₁ (Fed holds a b P size due)
       → Consumes l₁ l₂ read → o₂ ≡ o₁ + count → length read ≡ count → piece ≡ read → due' + count ≡ due
       → ((subject : Subject) (bytes : List ℕ) → holds b subject bytes → holds c subject (bytes ++ piece)) → ((x : List ℕ) → P x → Q (x ++ piece)) → Moves l₀ l₂ o₀ o₂ (Fed holds a c Q size due')
@@ -37,10 +33,6 @@ module _ {J : Type 0} (holds : J → Subject → List ℕ → Type 0) where
           subst (λ (z : List ℕ). Q (x ++ z)) (same ∙ sym e) (more x p.1.1),
         ),
       ))
-
-  pub fed_all : (a b : J) (P : List ℕ → Type 0) (size due : ℕ) (l₀ l₁ : Option (List ℕ)) (o₀ o₁ : ℕ) → Moves l₀ l₁ o₀ o₁ (Fed holds a b P size due) → due ≡ 0
-      → Moves l₀ l₁ o₀ o₁ (λ (x : List ℕ). (length x ≡ size) × (((subject : Subject) (bytes : List ℕ) → holds a subject bytes → holds b subject (bytes ++ x)) × P x))
-  fed_all a b P size due l₀ l₁ o₀ o₁ t none = takes_as l₀ l₁ o₀ o₁ _ _ t (λ x p. (omega (arith, p.0), p.1))
 
 pub begun_more : (room size due due' count : ℕ) (old mid new piece : List ℕ) → Begun room size due old mid → count ≡ min due room → 0 < due → due' + count ≡ due → length piece ≡ count → new ≡ mid ++ length piece ∷ []
     → Begun room size due' old new

@@ -1,5 +1,5 @@
 -- What holds of both kinds of message.
-use Rattle.std.proofs.Common.{◌≡◌, ◌≢◌, ℕ, inl, inr, List, [], ◌∷◌, false, None, Some, refl, ◌∙◌, arith}
+use Rattle.std.proofs.Common.{◌≡◌, ◌≢◌, ℕ, inl, inr, List, [], ◌∷◌, false, None, Some, refl, arith}
 use Rattle.ciborium_value.specs.Tree.{Tree, array, tag, Trees, tree_count, bytes, is_bytes}
 use Rattle.ciborium_value.specs.View.{trees}
 use Rattle.coset_headers.specs.Fields.{HeaderFields, ProtectedFields, protected}

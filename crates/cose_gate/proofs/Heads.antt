@@ -22,7 +22,9 @@ use Rattle.cose_gate_core.specs.Misshapen.{IsMisshapen}
 use Rattle.cose_gate.specs.declared.fault.StreamFault.{StreamFault}
 use Rattle.cose_gate.specs.declared.form.Form.{Form}
 use Rattle.cose_gate.specs.Forms.{tag_number}
-use Rattle.cose_gate.specs.Streaming.{Why, damaged, untagged, tagged, shape, without_payload, without_length, refused, UnstreamedBy, IsProtected, IsHeaderItem, MessageOpening, ShowsFault, no_array_of_four, no_payload}
+use Rattle.cose_gate.specs.Opening.{IsProtected, IsHeaderItem, MessageOpening, ShowsFault, no_array_of_four, no_payload}
+use Rattle.cose_gate.specs.StreamFaults.{Why, damaged, untagged, tagged, shape, without_payload, without_length, refused}
+use Rattle.cose_gate.specs.Streaming.{UnstreamedBy}
 use Rattle.cose_gate.specs.ElementFaults.{FourFault, SizeFault}
 use Rattle.cose_gate.proofs.Faults.{Names, tells_behind}
 use Rattle.cose_gate.proofs.Forms.{WrongForm, shaped, no_array, not_four_items, wrong_parts, not_two, not_three, single_tag}
@@ -141,7 +143,6 @@ payload_shape limits f o a b rest r h t e s no_bytes no_null no_undefined l u = 
 module _ (limits : Bounds) (f : Form) (o : Option ℕ) (a b : Tree) (first : IsProtected limits a) (second : IsHeaderItem limits b) where
   opens : (x rest r : List ℕ) (h : Header) → Within limits f o (one_more a (one_more b no_trees)) x → Begins rest h r → MessageOpening limits (x ++ rest) h
   opens x rest r h w s = record {
-    count = o;
     headers = one_more a (one_more b no_trees);
     third = rest;
     behind = r;

@@ -28,7 +28,9 @@ use Rattle.cose_gate.specs.declared.fault.StreamFault.{StreamFault}
 use Rattle.cose_gate.specs.declared.form.Form.{Form}
 use Rattle.cose_gate.specs.Forms.{tag_number}
 use Rattle.cose_gate.specs.Stated.{IsFour}
-use Rattle.cose_gate.specs.Streaming.{Why, damaged, untagged, tagged, shape, without_payload, without_length, refused, UnstreamedBy, BeginsMessage, IsProtected, IsHeaderItem, AreInPlace, RightUpTo, ShowsFault, break_too_early, no_protected, no_header, no_signature, not_closed, IsShapeFault, IsHeaderFault}
+use Rattle.cose_gate.specs.Opening.{BeginsMessage, IsProtected, IsHeaderItem, AreInPlace, RightUpTo, ShowsFault, break_too_early, no_protected, no_header, no_signature, not_closed, IsShapeFault, IsHeaderFault}
+use Rattle.cose_gate.specs.StreamFaults.{Why, damaged, untagged, tagged, shape, without_payload, without_length, refused}
+use Rattle.cose_gate.specs.Streaming.{UnstreamedBy}
 use Rattle.cose_gate.specs.ElementFaults.{PartFault, TagFault, NoBreak, WrongPart, NoneWrong, NoBytes, ShortFault, CloseFault}
 use Rattle.cose_gate.proofs.Faults.{Names, known_tells, tells_behind}
 use Rattle.cose_gate.proofs.Forms.{WrongForm, shaped, not_four_items, wrong_parts, wrong_last, not_two, not_three, single_tag}
@@ -64,7 +66,7 @@ four_or n = go (nat_eq n 4) refl
 -- of their number.
 pub record Place (limits : Bounds) (f : Form) (done : Trees) (W : CoseFault → Tree → Type 0) : Type 0 where
   pub in_place : AreInPlace limits done
-  pub shows : (b items rest : List ℕ) (o : Option ℕ) (v : Tree) (e : CoseFault) → RightUpTo limits b o done items → Front items (limits.nesting - 2) v rest → W e v → ShowsFault limits b e
+  pub shows : (b items rest : List ℕ) (v : Tree) (e : CoseFault) → RightUpTo limits b done items → Front items (limits.nesting - 2) v rest → W e v → ShowsFault limits b e
   pub has : (e : CoseFault) (v : Tree) (ms : Trees) → W e v
       → (tree_count (append done (one_more v ms)) ≡ 4 → WrongForm limits f (array (append done (one_more v ms))) e)
       × ((e ≡ unexpected) ⊎ IsHeaderFault limits (append done (one_more v ms)) e)
@@ -114,22 +116,8 @@ module _ (limits : Bounds) where
   pub within_array : (f : Form) (o : Option ℕ) (done : Trees) (x rest : List ℕ) (w : Within limits f o done x) → Begins (w.array_title ++ (w.inner ++ rest)) (Array o) (w.inner ++ rest)
   within_array f o done x rest w = record { title = w.array_title; is_title = w.is_array; whole = refl }
 
-  -- the elements that are read are right in their places
-  pub right_up_to : (f : Form) (o : Option ℕ) (done : Trees) (x rest : List ℕ) → Within limits f o done x → AreInPlace limits done → RightUpTo limits (x ++ rest) o done rest
-  right_up_to f o done x rest w right = record {
-    number = tag_number f;
-    inside = w.array_title ++ (w.inner ++ rest);
-    items = w.inner ++ rest;
-    is_single = single_tag f;
-    tag_first = within_tag f o done x rest w;
-    array_next = within_array f o done x rest w;
-    is_four = w.is_four;
-    fronts = record { spelling = w.inner; whole = refl; reads = w.reads };
-    in_place = right;
-  }
-
   -- a message of this kind is begun, with its array
-  pub begun : (f : Form) (o : Option ℕ) (done : Trees) (x rest : List ℕ) → Within limits f o done x → BeginsMessage (x ++ rest)
+  abbrev pub begun : (f : Form) (o : Option ℕ) (done : Trees) (x rest : List ℕ) → Within limits f o done x → BeginsMessage (x ++ rest)
   begun f o done x rest w = record {
     number = tag_number f;
     inside = w.array_title ++ (w.inner ++ rest);
@@ -140,6 +128,10 @@ module _ (limits : Bounds) where
     array_next = within_array f o done x rest w;
     is_four = w.is_four;
   }
+
+  -- the elements that are read are right in their places
+  abbrev pub right_up_to : (f : Form) (o : Option ℕ) (done : Trees) (x rest : List ℕ) → Within limits f o done x → AreInPlace limits done → RightUpTo limits (x ++ rest) done rest
+  right_up_to f o done x rest w right = record { begins = begun f o done x rest w; fronts = record { spelling = w.inner; whole = refl; reads = w.reads }; in_place = right }
 
   -- damage after the elements that are read
   pub within_damage : 2 ≤ limits.nesting → (stop : ℕ) (f : Form) (o : Option ℕ) (done : Trees) (x rest : List ℕ) (e : Fault) → Within limits f o done x → Due done rest (Array o)
@@ -213,16 +205,7 @@ module _ (limits : Bounds) where
       other means is n (inr c) (inr h) = absurd (n c)
       other means is n (inl c) (inr h) = inr (
         append done means,
-        record {
-          number = tag_number f;
-          inside = w.array_title ++ (w.inner ++ rest);
-          items = w.inner ++ rest;
-          is_single = single_tag f;
-          tag_first = within_tag f o done x rest w;
-          array_next = subst (λ (z : Option ℕ). Begins (w.array_title ++ (w.inner ++ rest)) (Array z) (w.inner ++ rest)) c (within_array f o done x rest w);
-          is = is;
-          other = n;
-        },
+        record { begins = begun f o done x rest w; open_array = c; is = is; other = n },
         h,
       )
 
@@ -262,11 +245,11 @@ module _ (limits : Bounds) where
   part_fault least f o done W few place stop x rest untagged w d = absurd d
   part_fault least f o done W few place stop x rest (tagged n) w d = absurd d
   part_fault least f o done W few place stop x rest (shape e) w (inl (u, (r, b))) = (
-    subst (ShowsFault limits (x ++ rest)) (sym u) (break_too_early o done r (subst (RightUpTo limits (x ++ rest) o done) b (right_up_to f o done x rest w place.in_place)) few),
+    subst (ShowsFault limits (x ++ rest)) (sym u) (break_too_early done r (subst (RightUpTo limits (x ++ rest) done) b (right_up_to f o done x rest w place.in_place)) few),
     λ t after i. inl (break_shape f o done rest r t e few (left f o done x rest after t w (omega arith) i) u b),
   )
   part_fault least f o done W few place stop x rest (shape e) w (inr (v, behind, there, wrong)) = (
-    place.shows (x ++ rest) rest behind o v e (right_up_to f o done x rest w place.in_place) there wrong,
+    place.shows (x ++ rest) rest behind v e (right_up_to f o done x rest w place.in_place) there wrong,
     λ t after i. wrong_shape f o done W place x rest behind v t e w few (left f o done x rest after t w (omega arith) i) there wrong,
   )
   part_fault least f o done W few place stop x rest without_payload w d = absurd d
@@ -280,7 +263,7 @@ module _ (limits : Bounds) where
 
   -- the places of the elements
   pub protected_place : (f : Form) → Place limits f no_trees (WrongPart (λ v e. WrongProtected limits.nesting v limits.layers e))
-  protected_place f = record { in_place = tt; shows = λ b items rest o v e right there wrong. no_protected o v items rest e right there wrong; has = has }
+  protected_place f = record { in_place = tt; shows = λ b items rest v e right there wrong. no_protected v items rest e right there wrong; has = has }
     where
       has : (e : CoseFault) (v : Tree) (ms : Trees) → WrongProtected limits.nesting v limits.layers e
           → (tree_count (one_more v ms) ≡ 4 → WrongForm limits f (array (one_more v ms)) e) × ((e ≡ unexpected) ⊎ IsHeaderFault limits (one_more v ms) e)
@@ -291,7 +274,7 @@ module _ (limits : Bounds) where
       has e v (one_more b (one_more c (one_more d (one_more x xs)))) w = (λ n. absurd (omega arith), inr (inl w))
 
   pub unprotected_place : (f : Form) (a : Tree) → IsProtected limits a → Place limits f (one_more a no_trees) (WrongPart (λ v e. WrongHeader limits.nesting v limits.layers e))
-  unprotected_place f a first = record { in_place = first; shows = λ b items rest o v e right there wrong. no_header o a v items rest e right there wrong; has = has }
+  unprotected_place f a first = record { in_place = first; shows = λ b items rest v e right there wrong. no_header a v items rest e right there wrong; has = has }
     where
       has : (e : CoseFault) (v : Tree) (ms : Trees) → WrongHeader limits.nesting v limits.layers e
           → (tree_count (one_more a (one_more v ms)) ≡ 4 → WrongForm limits f (array (one_more a (one_more v ms))) e) × ((e ≡ unexpected) ⊎ IsHeaderFault limits (one_more a (one_more v ms)) e)
@@ -303,7 +286,7 @@ module _ (limits : Bounds) where
   pub signature_place : (f : Form) (a b : Tree) (payload : List ℕ) → IsProtected limits a → IsHeaderItem limits b → Place limits f (one_more a (one_more b (one_more (bytes payload) no_trees))) NoBytes
   signature_place f a b payload first second = record {
     in_place = (first, second, (refl, tt));
-    shows = λ all items rest o v e right there wrong. subst (ShowsFault limits all) (sym wrong.0) (no_signature o (one_more a (one_more b (one_more (bytes payload) no_trees))) v items rest right refl there wrong.1);
+    shows = λ all items rest v e right there wrong. subst (ShowsFault limits all) (sym wrong.0) (no_signature (one_more a (one_more b (one_more (bytes payload) no_trees))) v items rest right refl there wrong.1);
     has = has;
   }
     where
@@ -314,7 +297,7 @@ module _ (limits : Bounds) where
       has e v (one_more d ms) w = (λ n. absurd (omega arith), inl w.0)
 
   pub any_place : (f : Form) (done : Trees) → AreInPlace limits done → Place limits f done NoneWrong
-  any_place f done right = record { in_place = right; shows = λ b items rest o v e before there wrong. absurd wrong; has = λ e v ms w. absurd w }
+  any_place f done right = record { in_place = right; shows = λ b items rest v e before there wrong. absurd wrong; has = λ e v ms w. absurd w }
 
   -- the end of an open array
   close_fault : 2 ≤ limits.nesting → (f : Form) (o : Option ℕ) (done : Trees) → AreInPlace limits done → o ≡ None → tree_count done ≡ 4 → (stop : ℕ) (x rest : List ℕ) (w : Why) → Within limits f o done x → CloseFault stop rest w
@@ -324,7 +307,7 @@ module _ (limits : Bounds) where
   close_fault least f o done right unsized four stop x rest untagged w d = absurd d
   close_fault least f o done right unsized four stop x rest (tagged n) w d = absurd d
   close_fault least f o done right unsized four stop x rest (shape e) w (u, d) = (
-    subst (ShowsFault limits (x ++ rest)) (sym u) (not_closed done d.0 rest d.1 (subst (λ (z : Option ℕ). RightUpTo limits (x ++ rest) z done rest) unsized (right_up_to f o done x rest w right)) four d.2 d.3),
+    subst (ShowsFault limits (x ++ rest)) (sym u) (not_closed done d.0 rest d.1 (right_up_to f o done x rest w right) unsized four d.2 d.3),
     λ t after i. inl (go t (left f o done x rest after t w (omega arith) i)),
   )
     where

@@ -15,7 +15,8 @@ use Rattle.cose_gate.specs.declared.fault.StreamFault.TheVariants as fault
 use Rattle.cose_gate.specs.declared.titles.Payload.{Payload}
 use Rattle.cose_gate.specs.declared.titles.Payload.TheVariants as payload
 use Rattle.cose_gate.specs.Stated.{IsSingleTag, IsFour, Cut}
-use Rattle.cose_gate.specs.Streaming.{WritesAll, Why, damaged, untagged, tagged, shape, without_payload, without_length, refused}
+use Rattle.cose_gate.specs.StreamFaults.{Why, damaged, untagged, tagged, shape, without_payload, without_length, refused}
+use Rattle.cose_gate.specs.Streaming.{WritesAll}
 
 -- the next title
 abbrev pub TitleFault : ℕ → List ℕ → Why → Type 0

@@ -1,7 +1,9 @@
 pub mod ElementFaults
 pub mod Forms
 pub mod Gate
+pub mod Opening
 pub mod Stated
+pub mod StreamFaults
 pub mod Streaming
 pub use Rattle.cose_gate_core.specs.Asked
 pub use Rattle.cose_gate_core.specs.Calls

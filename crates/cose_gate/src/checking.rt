@@ -2,11 +2,11 @@
 ghost use Rattle.std.specs.Prelude.{◌≡◌, ◌<◌, IfOk, IfErr, OnErr, length, false};
 ghost use Rattle.ciborium_ll.specs.Seen.{Takes};
 ghost use Rattle.ciborium_ll.specs.Views.{left_of, offset_of, seen};
+ghost use Rattle.cose_gate_core.specs.Findings.{usual};
 ghost use Rattle.cose_gate_core.specs.Terms.{limits_by};
-ghost use Rattle.cose_gate.specs.Streaming.{CheckedAsUsual, CheckedBy, CopiedBy, CopiedPart};
-ghost use Rattle.cose_gate.specs.Streaming.{WritesAll};
-ghost use Rattle.cose_gate.specs.Streaming.{Unstreamed, UnstreamedBy, IsFarFor, NamesWhy, Steady};
-ghost use Rattle.cose_gate.specs.Streaming.{AnswersStated, AnswersStatedBy, IsPlaced};
+ghost use Rattle.cose_gate.specs.StreamFaults.{IsFarFor, NamesWhy, Steady};
+ghost use Rattle.cose_gate.specs.Streaming.{CheckedBy, CopiedBy, CopiedPart, WritesAll, IsPlaced};
+ghost use Rattle.cose_gate.specs.Streaming.{UnstreamedBy, AnswersStatedBy};
 
 use crate::fault::StreamFault;
 use crate::feeding::{feed_front, feed_payload};
@@ -45,11 +45,11 @@ pub fn stream_check<R: Read, J: Judge>(
     // A judged message of a stated length was taken whole; the answer is the judge's to its
     // questions, and it was told of them alone.
     ensures ok { IfOk result (λ yes. Takes (seen R.Read decoder.old) (seen R.Read decoder.new)
-        (CheckedAsUsual J.decided (J.yes (J.who judge.old)) aad.now (J.told judge.old)
+        (CheckedBy usual J.decided (J.yes (J.who judge.old)) aad.now (J.told judge.old)
         (J.told judge.new) (length buffer.old) (J.pieces judge.new) yes)) }
 
     // Each fault says what is true of the bytes, and the judge was told nothing.
-    ensures err { IfErr result (NamesWhy R.ends Unstreamed (length buffer.old)
+    ensures err { IfErr result (NamesWhy R.ends (UnstreamedBy usual) (length buffer.old)
         (seen R.Read decoder.old)) }
     ensures told { OnErr result (J.told judge.new ≡ J.told judge.old) }
     ensures who { J.who judge.new ≡ J.who judge.old }
@@ -61,7 +61,8 @@ pub fn stream_check<R: Read, J: Judge>(
 
     // If such a message is in front, the result is Ok or a fault of memory, of the reader, or of an
     // offset that grows too long.
-    ensures exactly { AnswersStated R.ends (length buffer.old) (seen R.Read decoder.old) result }
+    ensures exactly { AnswersStatedBy usual R.ends (length buffer.old)
+        (seen R.Read decoder.old) result }
 {
     stream_check_with(alloc, Limits::default(), decoder, buffer, aad, judge)
 }

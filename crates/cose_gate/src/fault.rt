@@ -50,7 +50,7 @@ impl<E> From<AllocError> for StreamFault<E> {
 
 impl<E> From<de::Error<E>> for StreamFault<E> {
     ghost use Rattle.std.specs.Prelude.{◌≡◌};
-    ghost use Rattle.cose_gate.specs.Streaming.{fault_by};
+    ghost use Rattle.cose_gate.specs.StreamFaults.{fault_by};
 
     ghost from_gives = { λ e f. f ≡ fault_by e };
 
@@ -65,7 +65,7 @@ impl<E> From<de::Error<E>> for StreamFault<E> {
 impl<E> From<ciborium_ll::Error<E>> for StreamFault<E> {
     ghost use Rattle.std.specs.Prelude.{◌≡◌};
     ghost use Rattle.ciborium.specs.Reading.{lifted};
-    ghost use Rattle.cose_gate.specs.Streaming.{fault_by};
+    ghost use Rattle.cose_gate.specs.StreamFaults.{fault_by};
 
     ghost from_gives = { λ e f. f ≡ fault_by (lifted e) };
 
@@ -76,7 +76,7 @@ impl<E> From<ciborium_ll::Error<E>> for StreamFault<E> {
 
 impl<E> From<CoseError> for StreamFault<E> {
     ghost use Rattle.std.specs.Prelude.{◌≡◌};
-    ghost use Rattle.cose_gate.specs.Streaming.{shape_by};
+    ghost use Rattle.cose_gate.specs.StreamFaults.{shape_by};
 
     ghost from_gives = { λ e f. f ≡ shape_by e };
 

@@ -6,7 +6,8 @@ ghost use Rattle.coset_base.specs.Structure.{structure};
 ghost use Rattle.cose_gate_core.specs.Questions.{Subject};
 ghost use Rattle.cose_gate.specs.ElementFaults.{CopiedNext, ShortFault, Split};
 ghost use Rattle.cose_gate.specs.Forms.{context_of};
-ghost use Rattle.cose_gate.specs.Streaming.{IsFarFor, NamesWhy, Steady, WritesAll};
+ghost use Rattle.cose_gate.specs.StreamFaults.{IsFarFor, NamesWhy, Steady};
+ghost use Rattle.cose_gate.specs.Streaming.{WritesAll};
 
 use crate::fault::StreamFault;
 use crate::form::Form;

@@ -12,7 +12,7 @@ ghost use Rattle.coset_headers.specs.Wrong.{WrongProtected, WrongHeader};
 ghost use Rattle.cose_gate.specs.ElementFaults.{PartFault, IsPart, WrongPart, NoneWrong};
 ghost use Rattle.cose_gate.specs.ElementFaults.{NoBytes};
 ghost use Rattle.cose_gate.specs.Forms.{received_of};
-ghost use Rattle.cose_gate.specs.Streaming.{IsFarFor, NamesWhy, Steady};
+ghost use Rattle.cose_gate.specs.StreamFaults.{IsFarFor, NamesWhy, Steady};
 
 use crate::fault::{StreamFault, not_four};
 use crate::titles::next_head;

@@ -9,7 +9,7 @@ ghost use Rattle.cose_gate.specs.ElementFaults.{TitleFault, TagFault, FourFault,
 ghost use Rattle.cose_gate.specs.ElementFaults.{CloseFault, IsPayload, IsUnexpected};
 ghost use Rattle.cose_gate.specs.Forms.{tag_number};
 ghost use Rattle.cose_gate.specs.Stated.{IsFour, closing};
-ghost use Rattle.cose_gate.specs.Streaming.{IsFarFor, NamesWhy, Steady};
+ghost use Rattle.cose_gate.specs.StreamFaults.{IsFarFor, NamesWhy, Steady};
 
 use crate::fault::{StreamFault, not_four, other_kind};
 use crate::form::{Form, form_of};

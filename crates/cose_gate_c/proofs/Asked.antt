@@ -4,7 +4,8 @@ use Rattle.std.specs.Prelude.{◌⊎◌}
 use Rattle.coset_labels.specs.Limits.{AreLimits}
 use Rattle.cose_gate.specs.Findings.{Bounds, within}
 use Rattle.cose_gate.specs.Questions.{Question}
-use Rattle.cose_gate.specs.Streaming.{refused, BeginsMessage}
+use Rattle.cose_gate.specs.Opening.{BeginsMessage}
+use Rattle.cose_gate.specs.StreamFaults.{refused}
 use Rattle.cose_gate_c.proofs.Covered.{covered_ends}
 use Rattle.cose_gate_c.proofs.Streamed.{WasRead, in_front}
 use Rattle.cose_gate_c.specs.Keeping.{Told, gist_of, nothing_told, told_with, WritesRecord, WritesIfKept}

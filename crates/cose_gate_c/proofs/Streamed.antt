@@ -20,7 +20,9 @@ use Rattle.cose_gate.specs.Reading.{IfKnown}
 use Rattle.cose_gate.specs.SignedStructure.{sign1_covered}
 use Rattle.cose_gate.proofs.Lengths.{stated_whole}
 use Rattle.cose_gate.specs.Stated.{IsSingle, Stated, closing, before_payload}
-use Rattle.cose_gate.specs.Streaming.{CheckedBy, CopiedBy, damaged, untagged, tagged, shape, without_payload, without_length, refused, HoldsNoMemory, TellsFault, IsLongFor, BeginsMessage, UnstreamedBy, Answered}
+use Rattle.cose_gate.specs.Opening.{BeginsMessage}
+use Rattle.cose_gate.specs.StreamFaults.{damaged, untagged, tagged, shape, without_payload, without_length, refused, HoldsNoMemory, TellsFault, IsLongFor}
+use Rattle.cose_gate.specs.Streaming.{CheckedBy, CopiedBy, UnstreamedBy, Answered}
 use Rattle.cose_gate.specs.Tree.{Tree}
 use Rattle.cose_gate.specs.declared.fault.StreamFault.{StreamFault}
 use Rattle.cose_gate.specs.declared.fault.StreamFault.TheVariants as fault

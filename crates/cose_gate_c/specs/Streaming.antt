@@ -10,7 +10,8 @@ use Rattle.cose_gate.specs.KeyFields.{KeyFields}
 use Rattle.cose_gate.specs.Keys.{HasKeySet}
 use Rattle.cose_gate.specs.Questions.{Question, MessageFields, all_questions, payload_of}
 use Rattle.cose_gate.specs.Stated.{IsSingle, Stated}
-use Rattle.cose_gate.specs.Streaming.{Why, damaged, untagged, tagged, shape, without_payload, without_length, refused, UnstreamedBy}
+use Rattle.cose_gate.specs.StreamFaults.{Why, damaged, untagged, tagged, shape, without_payload, without_length, refused}
+use Rattle.cose_gate.specs.Streaming.{UnstreamedBy}
 use Rattle.cose_gate.specs.Tree.{Tree}
 use Rattle.cose_gate.specs.WrongKeys.{WrongKeySet}
 use Rattle.cose_gate.specs.declared.fault.StreamFault.{StreamFault}
@@ -61,8 +62,8 @@ pub record IsInFront (limits : Bounds) (aad input : List ℕ) (size at count : �
   pub lies : Lies payload at count front
   pub size_is : size ≡ length front
 
--- the bytes begin with none, or memory ran out: what this fault says of them is true, and its number
--- is said
+-- the bytes begin with none, or memory ran out: what this fault says of them is true, and its
+-- number is said
 pub record IsStopped (limits : Bounds) (input : List ℕ) (IsSaid : ℕ → Type 0) : Type 0 where
   pub why : Why
   pub shown : UnstreamedBy limits (length input) input why

@@ -1,11 +1,13 @@
-//! `cose-gate [--strict] [--verbose] [--quiet] [--summary] KEYS [AADHEX]`: reads a CBOR sequence
-//! from standard input, and writes the messages whose tags are good under the keys of the file KEYS
-//! to standard output. AADHEX is the external data in hex. With `--strict` only messages in
-//! canonical encoding pass; with `--verbose` standard error says more, with `--quiet` nothing of
-//! what passed, with `--summary` nothing of any item.
+//! `cose-gate [--strict] [--verbose] [--quiet] [--summary] KEYS [AADHEX]`, or with `--keys KEYS
+//! [--aad AADHEX] [FILE]`: reads a CBOR sequence from FILE or standard input, and writes the
+//! messages whose tags are good under the keys of the file KEYS to standard output. AADHEX is the
+//! external data in hex. With `--strict` only messages in canonical encoding pass; with `--verbose`
+//! standard error says more, with `--quiet` nothing of what passed, with `--summary` nothing of any
+//! item.
 //!
-//! `cose-gate --stream [--payload FILE] [--verbose] KEYS [AADHEX]`: checks that standard input is
-//! one such message, as it comes, and puts its payload into FILE if its tag is good.
+//! `cose-gate --stream [--payload PAYLOAD] [--verbose] KEYS [AADHEX]`, or with `--keys KEYS
+//! [--aad AADHEX] [FILE]`: checks that the input is one such message, as it comes, and puts its
+//! payload into PAYLOAD if its tag is good.
 #![tactic(auto)]
 
 mod folder;
@@ -14,8 +16,8 @@ mod streaming;
 use crate::streaming::{is_for_stream, start_stream};
 use ciborium_ll::Io;
 use cose_gate_command::{
-    Content, GATE, NotRun, USAGE, ended, page_for, program, read_arguments, read_in_blocks,
-    say_wrong, words_of, write_in_blocks, write_page,
+    Content, NOT_UTF8, NotRun, ended, gate_usage, open_input, page_for, program, read_arguments,
+    read_in_blocks, words_of, write_in_blocks, write_page,
 };
 use cose_gate_program::Blocks;
 use std::process::ExitCode;
@@ -24,33 +26,33 @@ use std::{env, fs};
 /// What `--version` prints.
 const VERSION: &str = "cose-gate 0.8\n";
 
-/// What `-h` and `--help` print. The script `cose-gate` prints the same.
+/// What `-h` and `--help` print. `scripts/run.sh` takes it from here.
 const HELP: &str = "\
 usage: cose-gate [--strict] [--verbose] [--quiet] [--summary] KEYS [AADHEX] < INPUT > PASSED
-       cose-gate --stream [--payload FILE] [--verbose] KEYS [AADHEX] < MESSAGE
+       cose-gate [OPTION..] --keys KEYS [--aad AADHEX] [FILE] > PASSED
+       cose-gate --stream [--payload PAYLOAD] [--verbose] KEYS [AADHEX] < MESSAGE
+       cose-gate --stream [OPTION..] --keys KEYS [--aad AADHEX] [FILE]
 Reads a CBOR sequence, and writes the messages that pass, each in canonical encoding.
 What passes: a COSE_Mac0 in its tag 17, whose MAC is HMAC with SHA-256 under its first matching key.
 KEYS: a file with a COSE_KeySet. AADHEX: the external data in hex, empty if it is left out.
+FILE: the input; it is standard input if it is left out. Options may be anywhere; after -- no word
+is one.
 With --strict a message that isn't in canonical encoding already is refused: NotShortest.
 On standard error: a line for each item, and at the end how many passed and were refused.
-With --verbose indented lines after these say why an item is refused, or the run stops.
+With --verbose indented lines say by which key an item passes, why it is refused, or the run stops.
 With --quiet an item that passed has no line, with --summary no item has: only the last line is.
 With --stream the input is one such message, of any size: it is checked as it comes, and
-nothing is written to standard output. FILE, which is a regular file or not there yet, gets its
-payload once its MAC is found to be good.
+nothing is written to standard output. PAYLOAD, which is a regular file or not there yet, gets
+its payload once its MAC is found to be good.
 Status 0: no item was refused. 1: some were. 2: wrong arguments, or AADHEX is not hex.
-3: KEYS can't be read, or isn't a key set. 4: the input isn't CBOR, input or output failed, or
-it is out of memory.
+3: KEYS or FILE can't be read, or KEYS isn't a key set. 4: the input isn't CBOR, input or output
+failed, or it is out of memory.
 ";
 
 fn main(rt: HostRuntime) -> ExitCode {
     let end = start(&rt);
     let mut err = Io::new(rt.stderr());
-    let status = ended(end, USAGE, &mut err);
-    if let Err(NotRun::Usage) = end {
-        say_wrong(rt.alloc(), None, &GATE, &mut err);
-    }
-    ExitCode::from(status)
+    ExitCode::from(ended(end, gate_usage(NOT_UTF8), &mut err))
 }
 
 /// Runs the program, and returns its status.
@@ -63,21 +65,29 @@ fn start(rt: &HostRuntime) -> Result<u8, NotRun> {
     if is_for_stream(words) {
         return start_stream(rt, words);
     }
-    run(rt, words, read_keys(rt, words)?)
-}
-
-/// What the file KEYS holds, if the arguments name one.
-fn read_keys(rt: &HostRuntime, words: &[String]) -> Result<Content, NotRun> {
     match read_arguments(words) {
-        Some(asked) => Content::of_file(fs::read(rt, asked.keys)),
-        None => Ok(Content::none("")),
+        Ok(asked) => run(
+            rt,
+            words,
+            asked.file,
+            Content::of_file(fs::read(rt, asked.keys))?,
+        ),
+        Err(_) => run(rt, words, None, Content::none("")),
     }
 }
 
-/// The run over the standard streams.
-fn run(rt: &HostRuntime, words: &[String], keys: Content) -> Result<u8, NotRun> {
+/// The run over FILE or standard input, and the other standard streams.
+fn run(
+    rt: &HostRuntime,
+    words: &[String],
+    file: Option<&str>,
+    keys: Content,
+) -> Result<u8, NotRun> {
     let alloc = rt.alloc();
-    let input = read_in_blocks(alloc, rt.stdin())?;
+    let input = match open_input(rt, rt.stdin(), file, &mut Io::new(rt.stderr())) {
+        Ok(input) => read_in_blocks(alloc, input)?,
+        Err(status) => return Ok(status),
+    };
     let mut output = write_in_blocks(alloc, rt.stdout())?;
     let mut lines = write_in_blocks(alloc, rt.stderr())?;
     Ok(program(

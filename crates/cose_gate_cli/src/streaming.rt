@@ -2,7 +2,9 @@
 use crate::folder::HostFolder;
 use ciborium_ll::{Io, Read};
 use cose_gate::Nowhere;
-use cose_gate_command::{Content, KeyFile, NotRun, Note, read_in_blocks, write_in_blocks};
+use cose_gate_command::{
+    Content, KeyFile, NotRun, Note, open_input, read_in_blocks, write_in_blocks,
+};
 use cose_stream::{
     EndTeller, StreamArguments, StreamEnd, StreamTerms, end_status, end_wrong, stream,
     stream_arguments, stream_into, tell_end,
@@ -22,7 +24,7 @@ pub fn is_for_stream(words: &[String]) -> bool {
     false
 }
 
-/// Checks the message on standard input, and returns the status.
+/// Checks the message, and returns the status.
 pub fn start_stream(rt: &HostRuntime, words: &[String]) -> Result<u8, NotRun> {
     match stream_arguments(words) {
         Ok(asked) => check(rt, asked),
@@ -34,7 +36,10 @@ pub fn start_stream(rt: &HostRuntime, words: &[String]) -> Result<u8, NotRun> {
 fn check(rt: &HostRuntime, asked: StreamArguments<'_>) -> Result<u8, NotRun> {
     let alloc = rt.alloc();
     let keys = Content::of_file(fs::read(rt, asked.keys))?;
-    let input = read_in_blocks(alloc, rt.stdin())?;
+    let input = match open_input(rt, rt.stdin(), asked.file, &mut Io::new(rt.stderr())) {
+        Ok(input) => read_in_blocks(alloc, input)?,
+        Err(status) => return Ok(status),
+    };
     let mut lines = write_in_blocks(alloc, rt.stderr())?;
     let note = RefCell::new(Note::new(alloc, asked.verbose));
     let teller = EndTeller {

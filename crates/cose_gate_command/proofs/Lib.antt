@@ -1,13 +1,13 @@
 pub mod AcceptedLines
 pub mod Arriving
-pub mod Cwt
 pub mod Endings
 pub mod Ends
+pub mod FirstWord
 pub mod HexDigits
 pub mod Keys
 pub mod NotRuns
 pub mod KeyReasons
+pub mod Reading
 pub mod RecordLine
 pub mod RunLines
 pub mod Sending
-pub mod Terms

@@ -18,17 +18,23 @@ page_of help version word =
     if bytes_eq word (codes "-h") || bytes_eq word (codes "--help") then Some help
     else (if bytes_eq word (codes "--version") then Some version else None)
 
--- the page that these arguments ask for: it has to be the only one
+-- the page that these arguments ask for: the first before -- that asks for one
+abbrev pub page_or : Option (List ℕ) → Option (List ℕ) → Option (List ℕ)
+page_or (Some page) more = Some page
+page_or None more = more
+
 abbrev pub page_for : List ℕ → List ℕ → List (List ℕ) → Option (List ℕ)
 page_for help version [] = None
-page_for help version (word ∷ []) = page_of help version word
-page_for help version (word ∷ next ∷ more) = None
+page_for help version (word ∷ words) =
+    if bytes_eq word (codes "--") then None
+    else page_or (page_of help version word) (page_for help version words)
 
 -- the line on a line of ACCEPTED
 abbrev pub line_fault : ℕ → List ℕ → List ℕ
 line_fault number fault = codes "accepted: line " ++ (decimal number ++ fault)
 
--- the line that says why a program didn't run, or ended without its output
+-- the line that says why a program didn't run, or ended without its output; or the lines of wrong
+-- arguments
 abbrev pub why_line : List ℕ → NotRun → List ℕ
 why_line usage unrun.Usage = usage
 why_line usage unrun.NotHex = codes "aad: not hex\n"
@@ -45,10 +51,14 @@ abbrev pub HasNoContent : List ℕ → Result Content NotRun → Type 0
 HasNoContent reason (Ok c) = (c.bytes ≡ None) × (c.fault.now ≡ reason)
 HasNoContent reason (Err why) = ⊥
 
+-- a fault of a file, in words
+abbrev pub file_fault : ErrorKind → List ℕ
+file_fault kind.NotFound = codes "no such file"
+file_fault kind.PermissionDenied = codes "no permission"
+file_fault kind.IsADirectory = codes "a folder"
+file_fault _ = codes "it can't be read"
+
 -- what reading a file with a fault of this kind gave
 abbrev pub NoContentFor : ErrorKind → Result Content NotRun → Type 0
 NoContentFor kind.OutOfMemory read = read ≡ Err unrun.Memory
-NoContentFor kind.NotFound read = HasNoContent (codes "no such file") read
-NoContentFor kind.PermissionDenied read = HasNoContent (codes "no permission") read
-NoContentFor kind.IsADirectory read = HasNoContent (codes "a folder") read
-NoContentFor _ read = HasNoContent (codes "it can't be read") read
+NoContentFor k read = HasNoContent (file_fault k) read

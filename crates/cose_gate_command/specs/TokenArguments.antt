@@ -1,9 +1,10 @@
--- Which tokens pass by the arguments of cose-ask after --cwt, which have this order:
--- --at SECONDS [--leeway SECONDS] [--iss ISS] [--aud AUD | --any-aud] [--need CLAIM..]
-use Rattle.std.specs.Prelude.{ℕ, ◌+◌, ◌-◌, ◌*◌, ◌^◌, ℤ, pos, ◌+ℤ◌, ◌-ℤ◌, List, [], ◌∷◌, map, Option, None, Some, option_map, option_and_then, option_copied, ◌&&◌, length, nat_eq, nat_le, nat_lt, bytes_eq, codes, string_bytes, if◌then◌else◌}
+-- Which tokens pass, by the arguments of cose-ask: --cwt --at SECONDS [--leeway SECONDS]
+-- [--iss ISS] [--aud AUD | --any-aud], anywhere, and at the end [--need CLAIM..].
+use Rattle.std.specs.Prelude.{ℕ, ◌+◌, ◌-◌, ◌*◌, ◌^◌, ℤ, pos, ◌+ℤ◌, ◌-ℤ◌, List, [], ◌∷◌, map, Result, Ok, Err, Option, None, Some, is_some, unwrap_or, option_and_then, option_copied, Bool, true, false, ◌&&◌, ◌||◌, length, nat_eq, nat_le, nat_lt, bytes_eq, codes, string_bytes, if◌then◌else◌}
 use Rattle.coset_labels.specs.Fields.{LabelFields, number, words}
 use Rattle.cose_rules.specs.Claims.{TermsFields, Receiver, nobody, somebody, anyone}
 use Rattle.cose_rules.specs.TokenView.{receiver_of}
+use Rattle.cose_gate_command.specs.CommandLine.{Word, Wrong, says, has_alone, value_of, last_words, and_then, or_wrong}
 use Rattle.cose_gate_command.specs.declared.tokens.TokenArguments.{TokenArguments}
 
 -- a number below 10^16 in decimal digits
@@ -18,28 +19,23 @@ digits_after n (c ∷ cs) = option_and_then (λ m. digits_after m cs) (with_digi
 abbrev pub number_in : List ℕ → Option ℕ
 number_in w = if nat_eq (length w) 0 then None else digits_after 0 w
 
--- an option and the word after it, if these words begin with it, and the words after that
-abbrev pub option_in : List ℕ → List (List ℕ) → Option (List ℕ) × List (List ℕ)
-option_in name [] = (None, [])
-option_in name (w ∷ []) = (None, w ∷ [])
-option_in name (w ∷ v ∷ ws) = if bytes_eq w name then (Some v, ws) else (None, w ∷ v ∷ ws)
+-- now, which has to be there
+abbrev pub now_in : Option (List ℕ) → Result ℕ Wrong
+now_in None = Err (says (codes "--at is missing: now, in seconds since 1970"))
+now_in (Some w) = or_wrong (says (codes "--at: not in digits, or not below 10^16")) (number_in w)
 
--- whom a token may be for, and the words after that
-abbrev pub anyone_in : List (List ℕ) → Receiver × List (List ℕ)
-anyone_in [] = (nobody, [])
-anyone_in (w ∷ ws) = if bytes_eq w (codes "--any-aud") then (anyone, ws) else (nobody, w ∷ ws)
+-- by how much clocks may differ, 0 without it
+abbrev pub leeway_in : Option (List ℕ) → Result ℕ Wrong
+leeway_in None = Ok 0
+leeway_in (Some w) =
+    or_wrong (says (codes "--leeway: not in digits, or not below 10^16")) (number_in w)
 
-abbrev pub somebody_or : Option (List ℕ) × List (List ℕ) → Receiver × List (List ℕ)
-somebody_or (Some name, ws) = (somebody name, ws)
-somebody_or (None, ws) = anyone_in ws
-
-abbrev pub receiver_in : List (List ℕ) → Receiver × List (List ℕ)
-receiver_in ws = somebody_or (option_in (codes "--aud") ws)
-
--- the claims that have to be there
-abbrev pub needed_in : List (List ℕ) → Option (List (List ℕ))
-needed_in [] = Some []
-needed_in (w ∷ ws) = if bytes_eq w (codes "--need") then Some ws else None
+-- whom a token may be for
+abbrev pub receiver_in : Bool → Option (List ℕ) → Result Receiver Wrong
+receiver_in false None = Ok nobody
+receiver_in true None = Ok anyone
+receiver_in false (Some name) = Ok (somebody name)
+receiver_in true (Some name) = Err (says (codes "--aud is given, and --any-aud too"))
 
 -- a claim by its name (RFC 8392, section 3.1)
 abbrev pub claim_of : List ℕ → LabelFields
@@ -53,38 +49,36 @@ claim_of w =
     else if bytes_eq w (codes "cti") then number (pos 7)
     else words w
 
--- now, and by how much clocks may differ, 0 without it
-abbrev pub leeway_in : Option (List ℕ) → Option ℕ
-leeway_in None = Some 0
-leeway_in (Some w) = number_in w
-
-abbrev pub times_in : Option (List ℕ) → Option (List ℕ) → Option (ℕ × ℕ)
-times_in at leeway = option_and_then (λ now. option_map (λ n. (now, n)) (leeway_in leeway))
-    (option_and_then number_in at)
-
--- the terms of these times, issuer and receiver, if the other words are the claims that are needed
-abbrev pub terms : Option (List ℕ) → Receiver → ℕ × ℕ → List (List ℕ) → TermsFields
-terms issuer receiver times needed = record {
-  earliest = pos times.0 -ℤ pos times.1;
-  latest = pos times.0 +ℤ pos times.1;
-  issuer = issuer;
+-- the terms of these times, issuer and receiver, and of these words after --need
+abbrev pub terms : List Word → ℕ → ℕ → Receiver → TermsFields
+terms l now leeway receiver = record {
+  earliest = pos now -ℤ pos leeway;
+  latest = pos now +ℤ pos leeway;
+  issuer = value_of (codes "--iss") l;
   receiver = receiver;
-  needed = map claim_of needed;
+  needed = map claim_of (unwrap_or (last_words l) []);
 }
 
-abbrev pub by_words : Option (List ℕ) → Option (List ℕ) → Option (List ℕ) → Receiver
-    → List (List ℕ) → Option TermsFields
-by_words at leeway issuer receiver ws = option_and_then
-    (λ times. option_map (λ needed. terms issuer receiver times needed) (needed_in ws))
-    (times_in at leeway)
+abbrev pub terms_in : List Word → Result TermsFields Wrong
+terms_in l = and_then (λ now. and_then (λ leeway. and_then (λ receiver.
+    Ok (terms l now leeway receiver))
+    (receiver_in (has_alone (codes "--any-aud") l) (value_of (codes "--aud") l)))
+    (leeway_in (value_of (codes "--leeway") l)))
+    (now_in (value_of (codes "--at") l))
 
-abbrev pub token_arguments : List (List ℕ) → Option TermsFields
-token_arguments ws =
-    let at = option_in (codes "--at") ws in
-    let leeway = option_in (codes "--leeway") at.1 in
-    let issuer = option_in (codes "--iss") leeway.1 in
-    let receiver = receiver_in issuer.1 in
-    by_words at.0 leeway.0 issuer.0 receiver.0 receiver.1
+-- one of them is there
+abbrev pub has_terms : List Word → Bool
+has_terms l = is_some (value_of (codes "--at") l) || (is_some (value_of (codes "--leeway") l)
+    || (is_some (value_of (codes "--iss") l) || (is_some (value_of (codes "--aud") l)
+    || (has_alone (codes "--any-aud") l || is_some (last_words l)))))
+
+-- which tokens pass, if items have to be tokens
+abbrev pub token_in : List Word → Result (Option TermsFields) Wrong
+token_in l =
+    if has_alone (codes "--cwt") l then and_then (λ t. Ok (Some t)) (terms_in l)
+    else if has_terms l
+    then Err (says (codes "--cwt is missing: what is asked of tokens is for it"))
+    else Ok None
 
 -- the same, as the code has them
 abbrev pub token_view : TokenArguments → TermsFields

@@ -1,6 +1,7 @@
 //! The run of `cose-ask`.
 ghost use Rattle.std.specs.Prelude.{◌≡◌, ◌<◌, [], IfOk, MatchResult, OnOk, Ok, false, is_ok};
 ghost use Rattle.std.specs.Prelude.{map, option_copied, option_map, string_bytes};
+ghost use Rattle.std.specs.Result.{result_ok};
 ghost use Rattle.coset_keys.specs.View.{key_set_view};
 ghost use Rattle.cose_gate_command.specs.Arguments as spec;
 ghost use Rattle.cose_gate_command.specs.Asking.{AskEnds, RanAsks, AsksByRules, RanThrough};
@@ -54,21 +55,23 @@ pub fn ask<'a, R: Read, W: Write, E: Write>(
     out: &mut W,
     err: &mut E,
 ) -> Result<u8, NotRun>
-    ensures ran { AskEnds W.Write E.Write (spec.ask_arguments (map string_bytes words.now))
+    ensures ran { AskEnds W.Write E.Write
+        (result_ok (spec.ask_arguments (map string_bytes words.now)))
         (option_copied keys.entry) fault.now
         (reading R.Read input.old) (reading R.Read input.new)
         out.old out.new err.old err.new result }
     ensures kept { R.handle input.new ≡ R.handle input.old }
     ensures lent { W.handle out.new ≡ W.handle out.old }
     ensures handed { W.held out.old ≡ [] → IfOk result (λ status.
-        RanThrough (spec.ask_arguments (map string_bytes words.now)) status
+        RanThrough (result_ok (spec.ask_arguments (map string_bytes words.now))) status
         → W.held out.new ≡ []) }
     ensures lines { IfOk result (λ status.
-        RanThrough (spec.ask_arguments (map string_bytes words.now)) status
+        RanThrough (result_ok (spec.ask_arguments (map string_bytes words.now))) status
         → HandedOn E.Write err.old err.new) }
 {
-    let Some(arguments) = ask_arguments(words) else {
-        return Err(NotRun::Usage);
+    let arguments = match ask_arguments(words) {
+        Ok(arguments) => arguments,
+        Err(_) => return Err(NotRun::Usage),
     };
     if let Some(name) = arguments.keys {
         let file = KeyFile {
@@ -84,10 +87,10 @@ pub fn ask<'a, R: Read, W: Write, E: Write>(
 }
 
 /// Asks by the rules, under the keys of this file.
-fn ask_keys<R: Read, W: Write, E: Write>(
+fn ask_keys<'a, R: Read, W: Write, E: Write>(
     alloc: Global,
-    asked: AskArguments<'_>,
-    file: KeyFile<'_>,
+    asked: AskArguments<'a>,
+    file: KeyFile<'a>,
     input: &mut R,
     out: &mut W,
     err: &mut E,
@@ -117,6 +120,7 @@ fn ask_keys<R: Read, W: Write, E: Write>(
                 summary: false,
                 keys: file.name,
                 aad: asked.aad,
+                file: None,
             };
             end_unbegun(alloc, plain, why, file, err)
         }

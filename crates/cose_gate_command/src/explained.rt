@@ -10,7 +10,7 @@ use cose_gate_program::{CoseKeySet, HmacJudge};
 use cose_hmac::HmacSha256;
 use cose_reasons::{
     Headers, KeyBook, Look, OTHER_KIND, Page, Secret, has_short_secret, secret_or_reason,
-    write_wrong_tag,
+    write_key, write_wrong_tag,
 };
 use std::alloc::{AllocError, Global};
 use std::cell::RefCell;
@@ -18,11 +18,13 @@ use std::cell::RefCell;
 /// More than the texts of `more` take, but for a reason.
 const LINE: usize = 256;
 
-/// Why the judge said no to the question at hand, and what is said before that.
+/// What is said of the judge's answer to the question at hand, and before that.
 #[derive(Drop)]
 pub struct Note {
-    /// The reason; empty if none is known.
+    /// Why it is no, or under which key it is yes; empty if that isn't known.
     pub(crate) reason: String,
+    /// Whether nothing is said of a yes.
+    pub(crate) is_quiet: bool,
     /// Whether the question is about one signature of several.
     pub(crate) is_of_signer: bool,
     /// The front of a line. It has memory from the beginning, so that a run tells that it is out of
@@ -44,6 +46,7 @@ impl Note {
         }
         Note {
             reason: String::new(alloc),
+            is_quiet: false,
             is_of_signer: false,
             line,
             keys: "",
@@ -51,16 +54,15 @@ impl Note {
     }
 }
 
-/// Why the judge by HMAC with these keys says no to the question at hand. If out of memory, no
-/// reason is known.
+/// Why the judge by HMAC with these keys says no to the question at hand, or under which key it
+/// says yes. If out of memory, no reason is known.
 #[derive(Drop)]
 pub struct Reasons<'a> {
     book: Option<KeyBook<'a>>,
     aad_len: usize,
-    /// The tag under the key of the message, of what was fed; none if the reason is known already.
-    mac: Option<HmacSha256>,
-    /// Whether another key has the id of this one.
-    is_shared: bool,
+    /// The tag under the secret of the message, of what was fed; none if the reason is known
+    /// already.
+    mac: Option<(HmacSha256, Secret<'a>)>,
     note: &'a RefCell<Note>,
 }
 
@@ -82,7 +84,6 @@ impl<'a> Reasons<'a> {
             book: KeyBook::new(alloc, Look::least(), keys).ok(),
             aad_len,
             mac: None,
-            is_shared: false,
             note,
         })
     }
@@ -99,40 +100,42 @@ impl<'a> Reasons<'a> {
             if page.has_failed() {
                 note.reason.clear();
             } else if let Some(secret) = secret {
-                self.mac = Some(HmacSha256::new(secret.bytes));
-                self.is_shared = secret.is_shared;
+                self.mac = Some((HmacSha256::new(secret.bytes), secret));
             }
         }
     }
 
     fn feed(&mut self, piece: &[u8]) {
-        if let Some(mac) = &mut self.mac {
+        if let Some((mac, _)) = &mut self.mac {
             mac.update(piece);
         }
     }
 
-    /// Notes what is wrong with the tag.
+    /// Notes what is wrong with the tag, or under which key it is right.
     fn decide(&mut self, tag: &[u8]) {
-        if let Some(mac) = self.mac.take() {
-            if let Ok(mut guard) = self.note.try_borrow_mut() {
-                let note = &mut *guard;
-                let whole = mac.finalize();
-                let mut page = Page::new(&mut note.reason);
-                write_wrong_tag(&whole, tag, self.is_shared, self.aad_len, &mut page);
-                if page.has_failed() {
-                    note.reason.clear();
-                }
+        if let Some((mac, secret)) = self.mac.take()
+            && let Some(book) = &self.book
+            && let Ok(mut guard) = self.note.try_borrow_mut()
+        {
+            let note = &mut *guard;
+            let whole = mac.finalize();
+            let mut page = Page::new(&mut note.reason);
+            if !write_wrong_tag(&whole, tag, secret.is_shared, self.aad_len, &mut page) {
+                write_key(book, secret.id, &mut page);
+            }
+            if page.has_failed() {
+                note.reason.clear();
             }
         }
     }
 }
 
 /// The secret under which the tag is verified; none if the reason is known already, and written.
-fn begun<'b>(
-    book: &'b Option<KeyBook<'_>>,
+fn begun<'a>(
+    book: &Option<KeyBook<'a>>,
     about: &About,
     page: &mut Page<'_, String>,
-) -> Option<Secret<'b>> {
+) -> Option<Secret<'a>> {
     match (about.kind, book) {
         (MessageKind::Mac0, Some(book)) => {
             let headers = Headers {

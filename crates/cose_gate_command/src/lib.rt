@@ -7,10 +7,12 @@ mod accepted;
 mod arguments;
 mod asking;
 mod command;
+mod command_line;
 mod counted;
 mod ending;
 mod explained;
 mod fields;
+mod input;
 mod key_file;
 mod line_writer;
 mod lines;
@@ -26,17 +28,21 @@ mod tokens;
 mod usage;
 mod verbose;
 
-pub use crate::arguments::{Arguments, read_arguments};
+pub use crate::arguments::{
+    Arguments, Inputs, NO_KEYS, PassArguments, file_in, pass_arguments, read_arguments, read_inputs,
+};
 pub use crate::asking::ask;
-pub use crate::command::{GATE, USAGE, program};
+pub use crate::command::{gate_usage, program};
+pub use crate::command_line::{CommandLine, NOT_UTF8, Options, Word, Wrong};
 pub use crate::explained::{Explained, Note, Reasons};
+pub use crate::input::{Input, open_input};
 pub use crate::key_file::{KeyFile, say_not_begun, write_reason};
 pub use crate::more::{say_fault, say_keys, say_reason, write_indented, write_more};
 pub use crate::not_run::NotRun;
-pub use crate::options::{AskArguments, PassArguments, ask_arguments, pass_arguments};
+pub use crate::options::{AskArguments, ask_arguments};
 pub use crate::passing::pass;
 pub use crate::starting::{
     Content, ended, page_for, read_in_blocks, words_of, write_in_blocks, write_page,
 };
-pub use crate::tokens::TokenArguments;
-pub use crate::usage::{Takes, say_wrong};
+pub use crate::tokens::{TokenArguments, number_in};
+pub use crate::usage::{Usage, say_wrong, visible_or};

@@ -7,10 +7,11 @@ ghost use Rattle.cose_gate_command.specs.RunLines.{AddsReasons, StaysHandedOn};
 
 use crate::explained::Note;
 use ciborium_ll::Write;
-use cose_gate_core::{GateFault, Refusal, SemanticKind, Verdict, de};
+use cose_gate_core::{GateFault, Refusal, Verdict, de};
 use cose_gate_program::{InputFault, Notice, hand_on};
+use cose_reasons::{Page, write_damage, write_refusal};
 use std::cell::RefCell;
-use std::fmt::{self, Write as _};
+use std::fmt;
 
 /// The number of an item, and where it begins.
 #[derive(Debug, Clone, Copy, PartialEq, Eq)]
@@ -19,8 +20,8 @@ pub(crate) struct Place {
     pub(crate) offset: usize,
 }
 
-/// Says more of a notice: what a refusal means, or what stopped a run whose next item is at this
-/// place. The note is that of the judge.
+/// Says more of a notice: what a refusal means, under which key an item passed, or what stopped a
+/// run whose next item is at this place. The note is that of the judge.
 pub(crate) fn say_more<W: Write>(notice: &Notice, place: Place, note: &RefCell<Note>, out: &mut W)
     ensures said { AddsReasons W.Write true out.old out.new }
     ensures handed { StaysHandedOn W.Write out.old out.new }
@@ -73,109 +74,55 @@ pub fn say_fault<W: Write>(fault: &GateFault<InputFault>, note: &RefCell<Note>, 
         number: 1,
         offset: 0,
     };
-    let _ = put_stop(fault, first, &mut note.line);
+    write_stop(fault, first, &mut Page::new(&mut note.line));
     write_more(note.line.as_str(), "", out);
 }
 
 /// Of a no without a reason.
 const NO: &str = "the judge says no";
 
-/// Puts what is said more of a notice into a note. A reason of the judge stays if it said no.
+/// Puts what is said more of a notice into a note. What the judge said stays if it was asked last.
 fn put_more(notice: &Notice, place: Place, note: &mut Note) {
-    if let Notice::Item(entry) = notice
-        && let Verdict::Refused(Refusal::Judged(index)) = entry.verdict
-    {
-        let _ = put_judged(index, note);
-        return;
+    let mut page = Page::new(&mut note.line);
+    match notice {
+        Notice::Item(entry) => match entry.verdict {
+            Verdict::Passed if note.is_quiet => {}
+            Verdict::Passed => return,
+            Verdict::Refused(Refusal::Judged(index)) => return put_judged(index, note),
+            Verdict::Refused(refusal) => write_refusal(refusal, &mut page),
+        },
+        Notice::Stopped(fault) => write_stop(fault, place, &mut page),
+        Notice::Counts(_) | Notice::NotBegun(_) => {}
     }
     note.reason.clear();
-    let _ = match notice {
-        Notice::Item(entry) => put_verdict(entry.verdict, &mut note.line),
-        Notice::Stopped(fault) => put_stop(fault, place, &mut note.line),
-        Notice::Counts(_) | Notice::NotBegun(_) => Ok(()),
-    };
 }
 
 /// Puts down which signature was refused, if there may be several, before the reason.
-fn put_judged(index: usize, note: &mut Note) -> fmt::Result {
+fn put_judged(index: usize, note: &mut Note) {
+    let mut page = Page::new(&mut note.line);
     if note.is_of_signer {
         let number = index.saturating_add(1);
-        write!(note.line, "signature {number}: ")?;
+        write!(page, "signature {number}: ");
     }
     if note.reason.is_empty() {
-        return note.line.write_str(NO);
-    }
-    Ok(())
-}
-
-/// Writes what a verdict means.
-fn put_verdict<P: fmt::Write>(verdict: Verdict, page: &mut P) -> fmt::Result {
-    match verdict {
-        Verdict::Passed => Ok(()),
-        Verdict::Refused(refusal) => put_refusal(refusal, page),
+        page.write_str(NO);
     }
 }
-
-/// Writes what a refusal means, if the judge has no part in it.
-fn put_refusal<P: fmt::Write>(refusal: Refusal, page: &mut P) -> fmt::Result {
-    match refusal {
-        Refusal::NotTagged => page.write_str("no tag; a COSE_Mac0 is in tag 17"),
-        Refusal::OtherTag(61) => page.write_str(WEB_TOKEN),
-        Refusal::OtherTag(number) => write!(page, "tag {number}"),
-        Refusal::Encrypted => page.write_str("a COSE_Encrypt or COSE_Encrypt0"),
-        Refusal::Shape(error) => write!(page, "{error}"),
-        Refusal::Detached => page.write_str("the message doesn't carry its payload"),
-        Refusal::NoSignature => page.write_str("a COSE_Sign without a signature"),
-        Refusal::NotShortest => page.write_str(NOT_CANONICAL),
-        Refusal::Judged(_) => Ok(()),
-    }
-}
-
-const WEB_TOKEN: &str =
-    "tag 61 (a CBOR Web Token); cose-gate takes the message in it, without this tag";
-
-const NOT_CANONICAL: &str = "not in canonical encoding; cose-show --strict shows where";
 
 /// Writes what stopped a run whose next item is at this place.
-fn put_stop<P: fmt::Write>(
-    fault: &GateFault<InputFault>,
-    place: Place,
-    page: &mut P,
-) -> fmt::Result {
+fn write_stop<P: fmt::Write>(fault: &GateFault<InputFault>, place: Place, page: &mut Page<'_, P>) {
+    if let GateFault::Write = fault {
+        page.write_str("the output can't be written");
+        return;
+    }
     let Place { number, offset } = place;
+    write!(page, "item {number} at {offset}: ");
     match fault {
         GateFault::Decode(de::Error::Io(InputFault::Failed)) => {
-            write!(page, "item {number} at {offset}: the input can't be read")
+            page.write_str("the input can't be read");
         }
-        GateFault::Decode(error) => {
-            write!(page, "item {number} at {offset}: ")?;
-            put_damage(error, page)
-        }
-        GateFault::Write => page.write_str("the output can't be written"),
-        GateFault::Memory => write!(page, "item {number} at {offset}: out of memory"),
-    }
-}
-
-/// Writes what is wrong with an item.
-fn put_damage<P: fmt::Write>(error: &de::Error<InputFault>, page: &mut P) -> fmt::Result {
-    match error {
-        de::Error::Io(_) => page.write_str("the input ends inside the item"),
-        de::Error::Syntax(at) => write!(page, "no CBOR item at {at}"),
-        de::Error::Semantic(_, kind) => page.write_str(kind_text(*kind)),
-        de::Error::RecursionLimitExceeded => {
-            page.write_str("the item nests deeper than 256 levels")
-        }
-        de::Error::Memory => page.write_str("out of memory"),
-        de::Error::TooLong => page.write_str("the input is too long"),
-    }
-}
-
-fn kind_text(kind: SemanticKind) -> &'static str {
-    match kind {
-        SemanticKind::Simple => "a simple value that isn't assigned",
-        SemanticKind::Break => "a break in place of an item",
-        SemanticKind::BigNegative => "a negative bignum below -2^127",
-        _ => "an item that has no value here",
+        GateFault::Decode(error) => write_damage(error, page),
+        GateFault::Write | GateFault::Memory => page.write_str("out of memory"),
     }
 }
 

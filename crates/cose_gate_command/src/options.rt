@@ -1,22 +1,19 @@
-//! The arguments of `cose-ask` and `cose-pass`, and what a run goes by.
-ghost use Rattle.std.specs.Prelude.{◌≡◌, ℕ, List, ◌∷◌, None, MatchResult, if◌then◌else◌};
-ghost use Rattle.std.specs.Prelude.{map, option_map, option_copied, string_bytes, Some, bytes_eq};
-ghost use Rattle.std.specs.Prelude.{codes};
-ghost use Rattle.std.specs.Prelude.{◌<◌, IfSome, length};
-ghost use Rattle.std.specs.List.{position};
+//! The arguments of `cose-ask`, and what a run goes by.
+ghost use Rattle.std.specs.Prelude.{◌≡◌, None, Some, Ok, Err, map, option_copied};
+ghost use Rattle.std.specs.Prelude.{string_bytes, MatchResult};
 ghost use Rattle.cose_gate_core.specs.Terms.{limits_of};
 ghost use Rattle.cose_gate_program.specs.Beginning.{aad_of};
 ghost use Rattle.cose_gate_command.specs.Arguments as spec;
-ghost use Rattle.cose_gate_command.specs.Arguments.{ask_view, pass_view};
+ghost use Rattle.cose_gate_command.specs.Arguments.{ask_view};
 ghost use Rattle.cose_gate_command.specs.Asking.{IsNoHexAad};
+ghost use Rattle.cose_gate_command.specs.CommandLine.{line_view, others, wrong_view};
 ghost use Rattle.cose_gate_command.specs.Ends.{bounds_by};
 ghost use Rattle.cose_gate_command.specs.Lines.{form_of};
-ghost use Rattle.cose_gate_command.specs.Options.{asks_after};
-ghost use Rattle.cose_gate_command.specs.TokenArguments.{token_view};
 
-use crate::arguments::{is_option, read_arguments};
+use crate::arguments::file_in;
+use crate::command_line::{CommandLine, Options, Wrong};
 use crate::not_run::NotRun;
-use crate::tokens::{TokenArguments, token_arguments};
+use crate::tokens::{TokenArguments, has_terms, token_in};
 use cose_gate_program::{Limits, Terms};
 use hex::FromHexError;
 use std::alloc::Global;
@@ -36,6 +33,8 @@ pub struct AskArguments<'a> {
     pub fields: bool,
     /// The external data in hex.
     pub aad: Option<&'a str>,
+    /// The file with the input; none is standard input.
+    pub file: Option<&'a str>,
 }
 
 /// What is written of a question.
@@ -47,19 +46,6 @@ pub enum Form {
     Lines,
     /// A line of text that says what the headers say of the key, too.
     Fields,
-}
-
-/// The arguments of `cose-pass`.
-#[derive(Debug, Clone, Copy, PartialEq, Eq)]
-pub struct PassArguments<'a> {
-    /// The file has digests of questions, in place of their records.
-    pub digests: bool,
-    /// Only messages in canonical encoding pass.
-    pub strict: bool,
-    /// The file with what was accepted.
-    pub accepted: &'a str,
-    /// The external data in hex.
-    pub aad: Option<&'a str>,
 }
 
 impl<'a> AskArguments<'a> {
@@ -75,151 +61,113 @@ impl<'a> AskArguments<'a> {
             Form::Records
         }
     }
+}
 
-    /// Takes the next word, if it fits.
-    fn take(&mut self, word: &'a str) -> bool
-        ensures { (ws : List (List ℕ)) → asks_after self.old (word.now ∷ ws)
-            ≡ (if result then asks_after self.new ws else None) }
-    {
-        match word {
-            "--strict" => self.strict = true,
-            "--lines" => self.lines = true,
-            "--fields" => self.fields = true,
-            word if is_option(word) => return false,
-            word => match self.aad {
-                None => self.aad = Some(word),
-                Some(_) => return false,
-            },
-        }
-        true
+const ASK: Options<'static> = Options {
+    alone: &["--strict", "--lines", "--fields", "--cwt", "--any-aud"],
+    named: &["--keys", "--aad", "--at", "--leeway", "--iss", "--aud"],
+    last: &["--need"],
+};
+
+/// What the arguments of `cose-ask` after its name ask for: `--strict`, `--lines` and `--fields`,
+/// anywhere, and `[AADHEX]` or `--aad AADHEX [FILE]`; or `--keys KEYS`, `--strict`, `--aad AADHEX`
+/// and, with `--cwt`, what is asked of tokens, anywhere, and `[FILE]`.
+///
+/// # Errors
+/// What is wrong with them.
+pub fn ask_arguments(all: &[String]) -> Result<AskArguments<'_>, Wrong<'_>>
+    ensures { MatchResult result
+        (λ a. spec.ask_arguments (map string_bytes all.now) ≡ Ok (ask_view a))
+        (λ w. spec.ask_arguments (map string_bytes all.now) ≡ Err (wrong_view w)) }
+{
+    let line = CommandLine::new(ASK, all);
+    match line.check() {
+        Ok(()) => asked_in(line),
+        Err(wrong) => Err(wrong),
     }
 }
 
-/// The arguments `[--strict] [--lines] [--fields] [AADHEX]`, or `--keys KEYS [--strict] [AADHEX]`
-/// and then `--cwt` with its own; `None` if they are others. `--keys` comes first, `--cwt` with its
-/// own last, and other options may be before and after AADHEX.
-pub fn ask_arguments(all: &[String]) -> Option<AskArguments<'_>>
-    ensures { option_map ask_view result ≡ spec.ask_arguments (map string_bytes all.now) }
+fn asked_in<'a>(line: CommandLine<'a>) -> Result<AskArguments<'a>, Wrong<'a>>
+    ensures { MatchResult result (λ a. spec.asked_in (line_view line.entry) ≡ Ok (ask_view a))
+        (λ w. spec.asked_in (line_view line.entry) ≡ Err (wrong_view w)) }
 {
-    if let Some((first, rest)) = all.split_first()
-        && first.as_str() == "--keys"
-    {
-        return with_file(rest);
-    }
-    with_keys(None, None, all)
-}
-
-fn first_cwt(words: &[String]) -> Option<usize>
-    ensures place { result ≡ position (λ w. bytes_eq (string_bytes w) (codes "--cwt")) words.now }
-    ensures within { IfSome result (λ n. n < length words.now) }
-{
-    words.iter().position(|word| word.as_str() == "--cwt")
-}
-
-/// The place of `--cwt`.
-fn place_of_cwt(words: &[String]) -> Option<usize>
-    ensures place { result
-        ≡ position (λ w. bytes_eq w (codes "--cwt")) (map string_bytes words.now) }
-    ensures within { IfSome result (λ n. n < length words.now) }
-{
-    first_cwt(words)
-}
-
-/// The arguments after `--keys`: KEYS, others without a form of questions, and which tokens pass.
-fn with_file(words: &[String]) -> Option<AskArguments<'_>>
-    ensures { option_map ask_view result ≡ spec.with_file (map string_bytes words.now) }
-{
-    let (keys, rest) = words.split_first()?;
-    with_cwt(keys.as_str(), rest, place_of_cwt(rest))
-}
-
-/// The arguments after KEYS, with `--cwt` at this place.
-fn with_cwt<'a>(
-    keys: &'a str,
-    words: &'a [String],
-    place: Option<usize>,
-) -> Option<AskArguments<'a>>
-    requires { IfSome place (λ n. n < length words.now) }
-    ensures { option_map ask_view result
-        ≡ spec.with_cwt keys.now (map string_bytes words.now) place }
-{
-    match place {
-        Some(place) => {
-            let token = token_arguments(&words[place + 1..])?;
-            formless(keys, Some(token), &words[..place])
-        }
-        None => formless(keys, None, words),
+    match line.value("--keys") {
+        Some(keys) => blocks_in(keys, line),
+        None => questions_in(line),
     }
 }
 
-/// The arguments after KEYS, without a form of questions.
-fn formless<'a>(
-    keys: &'a str,
-    token: Option<TokenArguments<'a>>,
-    words: &'a [String],
-) -> Option<AskArguments<'a>>
-    ensures { option_map ask_view result
-        ≡ spec.formless keys.now (option_map token_view token.entry) (map string_bytes words.now) }
+/// What is asked without keys.
+fn questions_in<'a>(line: CommandLine<'a>) -> Result<AskArguments<'a>, Wrong<'a>>
+    ensures { MatchResult result (λ a. spec.questions_in (line_view line.entry) ≡ Ok (ask_view a))
+        (λ w. spec.questions_in (line_view line.entry) ≡ Err (wrong_view w)) }
 {
-    let asked = with_keys(Some(keys), token, words)?;
-    if asked.lines || asked.fields {
-        return None;
+    if line.has("--cwt") || has_terms(line) {
+        return Err(Wrong::Says("--keys KEYS is missing: what is asked of tokens is for it"));
     }
-    Some(asked)
+    let (aad, file) = question_inputs(line, line.value("--aad"))?;
+    Ok(AskArguments {
+        keys: None,
+        token: None,
+        strict: line.has("--strict"),
+        lines: line.has("--lines"),
+        fields: line.has("--fields"),
+        aad,
+        file,
+    })
 }
 
-/// The arguments without `--keys`, or those after KEYS and before `--cwt`.
-fn with_keys<'a>(
-    keys: Option<&'a str>,
-    token: Option<TokenArguments<'a>>,
-    words: &'a [String],
-) -> Option<AskArguments<'a>>
-    ensures { option_map ask_view result
-        ≡ spec.with_keys (option_copied keys.entry) (option_map token_view token.entry)
-        (map string_bytes words.now) }
+/// The external data, and FILE if that is given by name.
+fn question_inputs<'a>(
+    line: CommandLine<'a>,
+    aad: Option<&'a str>,
+) -> Result<(Option<&'a str>, Option<&'a str>), Wrong<'a>>
+    ensures { MatchResult result
+        (λ s. spec.question_inputs (option_copied aad.entry) (others (line_view line.entry))
+        ≡ Ok (option_copied s.0, option_copied s.1))
+        (λ w. spec.question_inputs (option_copied aad.entry) (others (line_view line.entry))
+        ≡ Err (wrong_view w)) }
 {
-    let mut asked = AskArguments {
-        keys,
+    match aad {
+        Some(_) => Ok((aad, file_in(line)?)),
+        None => Ok((aad_in(line)?, None)),
+    }
+}
+
+/// AADHEX, if it is the only other word.
+fn aad_in<'a>(line: CommandLine<'a>) -> Result<Option<&'a str>, Wrong<'a>>
+    ensures { MatchResult result
+        (λ a. spec.aad_in (others (line_view line.entry)) ≡ Ok (option_copied a))
+        (λ w. spec.aad_in (others (line_view line.entry)) ≡ Err (wrong_view w)) }
+{
+    let Some((aad, line)) = line.next_other() else {
+        return Ok(None);
+    };
+    match line.next_other() {
+        Some((word, _)) => Err(Wrong::TooMany(word)),
+        None => Ok(Some(aad)),
+    }
+}
+
+/// What is asked by the rules.
+fn blocks_in<'a>(keys: &'a str, line: CommandLine<'a>) -> Result<AskArguments<'a>, Wrong<'a>>
+    ensures { MatchResult result
+        (λ a. spec.blocks_in keys.now (line_view line.entry) ≡ Ok (ask_view a))
+        (λ w. spec.blocks_in keys.now (line_view line.entry) ≡ Err (wrong_view w)) }
+{
+    if line.has("--lines") || line.has("--fields") {
+        return Err(Wrong::Says("--lines and --fields aren't for --keys"));
+    }
+    let token = token_in(line)?;
+    let file = file_in(line)?;
+    Ok(AskArguments {
+        keys: Some(keys),
         token,
-        strict: false,
+        strict: line.has("--strict"),
         lines: false,
         fields: false,
-        aad: None,
-    };
-    for word in words {
-        if !asked.take(word.as_str()) {
-            return None;
-        }
-    }
-    Some(asked)
-}
-
-/// The arguments `[--digests] [--strict] ACCEPTED [AADHEX]`; `None` if they are others. `--digests`
-/// comes first, `--strict` may be anywhere after it.
-pub fn pass_arguments(all: &[String]) -> Option<PassArguments<'_>>
-    ensures { option_map pass_view result ≡ spec.pass_arguments (map string_bytes all.now) }
-{
-    let (first, rest) = all.split_first()?;
-    if first.as_str() != "--digests" {
-        return with_digests(false, all);
-    }
-    with_digests(true, rest)
-}
-
-/// The other arguments, with digests or with records.
-fn with_digests(digests: bool, words: &[String]) -> Option<PassArguments<'_>>
-    ensures { option_map pass_view result
-        ≡ spec.with_digests digests (map string_bytes words.now) }
-{
-    let asked = read_arguments(words)?;
-    if asked.verbose || asked.quiet || asked.summary {
-        return None;
-    }
-    Some(PassArguments {
-        digests,
-        strict: asked.strict,
-        accepted: asked.keys,
-        aad: asked.aad,
+        aad: line.value("--aad"),
+        file,
     })
 }
 

@@ -1,5 +1,6 @@
 //! The run of `cose-pass`.
 ghost use Rattle.std.specs.Prelude.{◌≡◌, ◌<◌, [], IfOk, OnOk, map, option_map, string_bytes};
+ghost use Rattle.std.specs.Result.{result_ok};
 ghost use Rattle.cose_gate_core.specs.Terms.{limits_of};
 ghost use Rattle.cose_gate_command.specs.Arguments as spec;
 ghost use Rattle.cose_gate_command.specs.Passing.{RanPassing, PassedByDigests, PassEnds};
@@ -7,8 +8,9 @@ ghost use Rattle.cose_gate_program.specs.Program.{devices_of};
 ghost use Rattle.cose_gate_program.specs.Writing.{HandedOn};
 
 use crate::accepted::read_accepted;
+use crate::arguments::pass_arguments;
 use crate::not_run::NotRun;
-use crate::options::{RunTerms, pass_arguments, read_aad, run_terms};
+use crate::options::{RunTerms, read_aad, run_terms};
 use ciborium_ll::{Read, Write};
 use cose_gate_program::run_judged;
 use cose_gate_records::{Accepted, Digested};
@@ -29,7 +31,8 @@ pub fn pass<R: Read, W: Write, E: Write>(
     out: &mut W,
     err: &mut E,
 ) -> Result<u8, NotRun>
-    ensures ran { PassEnds E.Write (spec.pass_arguments (map string_bytes words.now))
+    ensures ran { PassEnds E.Write
+        (result_ok (spec.pass_arguments (map string_bytes words.now)))
         (option_map (λ bytes. bytes.items) accepted)
         (devices_of R.Read W.Write input.old out.old)
         (devices_of R.Read W.Write input.new out.new) err.old err.new result }
@@ -38,8 +41,9 @@ pub fn pass<R: Read, W: Write, E: Write>(
     ensures handed { IfOk result (λ status. status < 2 → W.held out.new ≡ []) }
     ensures lines { OnOk result (HandedOn E.Write err.old err.new) }
 {
-    let Some(arguments) = pass_arguments(words) else {
-        return Err(NotRun::Usage);
+    let arguments = match pass_arguments(words) {
+        Ok(arguments) => arguments,
+        Err(_) => return Err(NotRun::Usage),
     };
     let Some(accepted) = accepted else {
         return Err(NotRun::NoFile);

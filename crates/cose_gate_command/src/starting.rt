@@ -10,8 +10,10 @@ ghost use Rattle.cose_gate_program.specs.Writing.{Wrote};
 ghost use Rattle.cose_gate_command.specs.Asking.{SentText, status_of};
 ghost use Rattle.cose_gate_command.specs.Starting as spec;
 ghost use Rattle.cose_gate_command.specs.Starting.{NoContentFor, why_line, why_no_words};
+ghost use Rattle.cose_gate_command.specs.Usage.{lines_of};
 
 use crate::not_run::NotRun;
+use crate::usage::{Usage, say_wrong};
 use ciborium_ll::Write;
 use cose_gate_program::{OutBlocks, has_stack, write_number};
 use std::alloc::{AllocError, Global};
@@ -49,16 +51,23 @@ fn words_after_first(alloc: Global, all: env::Args) -> Result<Vec<String>, Alloc
     all.skip(1).collect(alloc)
 }
 
-/// The page that the only argument asks for: the help, or the version. A file with such a name is
-/// `./-h`.
+/// The page that the first argument before `--` asks for that asks for one: the help, or the
+/// version. A file with such a name is `./-h`.
 pub fn page_for<'a>(words: &[String], help: &'a str, version: &'a str) -> Option<&'a str>
     ensures { option_copied result
         ≡ spec.page_for help.now version.now (map string_bytes words.now) }
 {
-    match words {
-        [word] => page_of(word.as_str(), help, version),
-        _ => None,
+    let mut rest = words;
+    while let Some((word, after)) = rest.split_first() {
+        if word.as_str() == "--" {
+            return None;
+        }
+        if let Some(page) = page_of(word.as_str(), help, version) {
+            return Some(page);
+        }
+        rest = after;
     }
+    None
 }
 
 /// The page that one argument asks for.
@@ -121,12 +130,12 @@ pub fn write_page<W: Write>(page: &str, out: &mut W) -> Result<u8, NotRun>
     }
 }
 
-/// The status of a program that ended so. Why it didn't run is told in a line, which for other
-/// arguments is `usage`.
-pub fn ended<E: Write>(end: Result<u8, NotRun>, usage: &str, err: &mut E) -> u8
+/// The status of a program that ended so. Why it didn't run is told in a line, or in those of wrong
+/// arguments.
+pub fn ended<E: Write>(end: Result<u8, NotRun>, usage: Usage<'_>, err: &mut E) -> u8
     ensures status { MatchResult end (λ status. result ≡ status) (λ why. result ≡ status_of why) }
     ensures said { MatchResult end (λ _. err.new ≡ err.old)
-        (λ why. Wrote E.Write err.old err.new (why_line usage.now why)) }
+        (λ why. Wrote E.Write err.old err.new (why_line (lines_of usage.entry) why)) }
 {
     match end {
         Ok(status) => status,
@@ -138,11 +147,11 @@ pub fn ended<E: Write>(end: Result<u8, NotRun>, usage: &str, err: &mut E) -> u8
 }
 
 /// Writes why a program didn't run.
-fn write_why<E: Write>(why: NotRun, usage: &str, err: &mut E)
-    ensures { Wrote E.Write err.old err.new (why_line usage.now why) }
+fn write_why<E: Write>(why: NotRun, usage: Usage<'_>, err: &mut E)
+    ensures { Wrote E.Write err.old err.new (why_line (lines_of usage.entry) why) }
 {
     match why {
-        NotRun::Usage => write(usage, err),
+        NotRun::Usage => say_wrong(usage, err),
         NotRun::NotHex => write("aad: not hex\n", err),
         NotRun::NoFile => write("accepted: cannot be read\n", err),
         NotRun::NoRecords => write("accepted: no records\n", err),
@@ -168,6 +177,18 @@ pub(crate) fn write<E: Write>(text: &str, err: &mut E)
     ensures { Wrote E.Write err.old err.new text.now }
 {
     let _ = err.write_all(text.as_bytes());
+}
+
+/// A fault of a file, in words.
+pub(crate) fn file_fault(kind: io::ErrorKind) -> &'static str
+    ensures { result.now ≡ spec.file_fault kind }
+{
+    match kind {
+        io::ErrorKind::NotFound => "no such file",
+        io::ErrorKind::PermissionDenied => "no permission",
+        io::ErrorKind::IsADirectory => "a folder",
+        _ => "it can't be read",
+    }
 }
 
 /// What a file holds.
@@ -196,10 +217,7 @@ impl Content {
             }),
             Err(error) => match error.kind() {
                 io::ErrorKind::OutOfMemory => Err(NotRun::Memory),
-                io::ErrorKind::NotFound => Ok(Content::none("no such file")),
-                io::ErrorKind::PermissionDenied => Ok(Content::none("no permission")),
-                io::ErrorKind::IsADirectory => Ok(Content::none("a folder")),
-                _ => Ok(Content::none("it can't be read")),
+                kind => Ok(Content::none(file_fault(kind))),
             },
         }
     }

@@ -1,16 +1,19 @@
 //! The arguments of `cose-ask --cwt`.
-ghost use Rattle.std.specs.Prelude.{◌≡◌, ◌<◌, ◌^◌, IfOk, IfSome, map, option_map, option_copied};
-ghost use Rattle.std.specs.Prelude.{string_bytes};
+ghost use Rattle.std.specs.Prelude.{◌≡◌, ◌<◌, ◌^◌, [], None, Some, Ok, Err, IfOk, IfSome, map};
+ghost use Rattle.std.specs.Prelude.{option_map};
+ghost use Rattle.std.specs.Prelude.{MatchResult, option_copied, string_bytes, unwrap_or};
 ghost use Rattle.coset_labels.specs.View.{label_view};
 ghost use Rattle.cose_rules.specs.TokenView.{receiver_of, terms_view};
+ghost use Rattle.cose_gate_command.specs.CommandLine.{last_words, line_view, wrong_view};
 ghost use Rattle.cose_gate_command.specs.TokenArguments as spec;
 ghost use Rattle.cose_gate_command.specs.TokenArguments.{needed_by, token_view};
 
+use crate::command_line::{CommandLine, Wrong};
 use cose_ruled::{Audience, TokenTerms};
 use coset_labels::Label;
 use std::alloc::{AllocError, Global};
 
-/// Which tokens pass, by the arguments after `--cwt`.
+/// Which tokens pass, by the arguments of `--cwt`.
 #[derive(Clone, Copy)]
 pub struct TokenArguments<'a> {
     /// The earliest second since 1970 that it may be: now, less the leeway.
@@ -38,7 +41,7 @@ fn with_digit(number: u64, digit: u8) -> Option<u64>
 }
 
 /// A number below 10^16 in decimal digits.
-fn number_in(word: &str) -> Option<u64>
+pub fn number_in(word: &str) -> Option<u64>
     ensures value { result ≡ spec.number_in word.now }
     ensures small { IfSome result (λ n. n < 10 ^ 16) }
 {
@@ -53,97 +56,106 @@ fn number_in(word: &str) -> Option<u64>
     Some(number)
 }
 
-/// Now, and by how much clocks may differ.
-fn times_in(at: Option<&str>, leeway: Option<&str>) -> Option<(u64, u64)>
-    ensures value { result
-        ≡ spec.times_in (option_copied at.entry) (option_copied leeway.entry) }
-    ensures now { IfSome result (λ times. times.0 < 10 ^ 16) }
-    ensures leeway { IfSome result (λ times. times.1 < 10 ^ 16) }
+/// Now.
+fn now_in(at: Option<&str>) -> Result<u64, Wrong<'static>>
+    ensures value { MatchResult result (λ n. spec.now_in (option_copied at.entry) ≡ Ok n)
+        (λ w. spec.now_in (option_copied at.entry) ≡ Err (wrong_view w)) }
+    ensures small { IfOk result (λ n. n < 10 ^ 16) }
 {
-    let now = number_in(at?)?;
-    match leeway {
-        Some(word) => Some((now, number_in(word)?)),
-        None => Some((now, 0)),
+    let Some(word) = at else {
+        return Err(Wrong::Says("--at is missing: now, in seconds since 1970"));
+    };
+    match number_in(word) {
+        Some(number) => Ok(number),
+        None => Err(Wrong::Says("--at: not in digits, or not below 10^16")),
     }
 }
 
-/// The word after this option, if the words begin with it, and the words after that.
-fn option_in<'a>(name: &str, words: &'a [String]) -> (Option<&'a str>, &'a [String])
-    ensures { (option_copied result.0, map string_bytes result.1.now)
-        ≡ spec.option_in name.now (map string_bytes words.now) }
+/// By how much clocks may differ.
+fn leeway_in(leeway: Option<&str>) -> Result<u64, Wrong<'static>>
+    ensures value { MatchResult result (λ n. spec.leeway_in (option_copied leeway.entry) ≡ Ok n)
+        (λ w. spec.leeway_in (option_copied leeway.entry) ≡ Err (wrong_view w)) }
+    ensures small { IfOk result (λ n. n < 10 ^ 16) }
 {
-    match words {
-        [word, value, rest @ ..] if word.as_str() == name => (Some(value.as_str()), rest),
-        _ => (None, words),
+    let Some(word) = leeway else {
+        return Ok(0);
+    };
+    match number_in(word) {
+        Some(number) => Ok(number),
+        None => Err(Wrong::Says("--leeway: not in digits, or not below 10^16")),
     }
 }
 
-fn anyone_in(words: &[String]) -> (Audience<'_>, &[String])
-    ensures { (receiver_of result.0, map string_bytes result.1.now)
-        ≡ spec.anyone_in (map string_bytes words.now) }
+/// Whom a token may be for.
+fn audience_in<'a>(anyone: bool, name: Option<&'a str>) -> Result<Audience<'a>, Wrong<'static>>
+    ensures { MatchResult result
+        (λ a. spec.receiver_in anyone (option_copied name.entry) ≡ Ok (receiver_of a))
+        (λ w. spec.receiver_in anyone (option_copied name.entry) ≡ Err (wrong_view w)) }
 {
-    match words {
-        [word, rest @ ..] if word.as_str() == "--any-aud" => (Audience::Anyone, rest),
-        _ => (Audience::Nobody, words),
+    match name {
+        Some(_) if anyone => Err(Wrong::Says("--aud is given, and --any-aud too")),
+        Some(name) => Ok(Audience::Named(name)),
+        None if anyone => Ok(Audience::Anyone),
+        None => Ok(Audience::Nobody),
     }
 }
 
-/// Whom a token may be for, and the words after that.
-fn audience_in(words: &[String]) -> (Audience<'_>, &[String])
-    ensures { (receiver_of result.0, map string_bytes result.1.now)
-        ≡ spec.receiver_in (map string_bytes words.now) }
+/// The words after `--need`.
+fn needed_in<'a>(line: CommandLine<'a>) -> &'a [String]
+    ensures { map string_bytes result.now ≡ unwrap_or (last_words (line_view line.entry)) [] }
 {
-    match option_in("--aud", words) {
-        (Some(name), rest) => (Audience::Named(name), rest),
-        (None, rest) => anyone_in(rest),
+    match line.last_words() {
+        Some(words) => words,
+        None => &[],
     }
 }
 
-/// The claims that have to be there: all words after `--need`.
-fn needed_in(words: &[String]) -> Option<&[String]>
-    ensures { option_map (λ w. map string_bytes w.now) result
-        ≡ spec.needed_in (map string_bytes words.now) }
+/// What is asked of tokens.
+fn terms_in<'a>(line: CommandLine<'a>) -> Result<TokenArguments<'a>, Wrong<'a>>
+    ensures { MatchResult result
+        (λ t. spec.terms_in (line_view line.entry) ≡ Ok (token_view t))
+        (λ w. spec.terms_in (line_view line.entry) ≡ Err (wrong_view w)) }
 {
-    match words {
-        [] => Some(words),
-        [word, rest @ ..] if word.as_str() == "--need" => Some(rest),
-        _ => None,
-    }
-}
-
-/// The terms by the words of each option, and the other words.
-fn by_words<'a>(
-    at: Option<&str>,
-    leeway: Option<&str>,
-    issuer: Option<&'a str>,
-    audience: Audience<'a>,
-    words: &'a [String],
-) -> Option<TokenArguments<'a>>
-    ensures { option_map token_view result
-        ≡ spec.by_words (option_copied at.entry) (option_copied leeway.entry)
-        (option_copied issuer.entry) (receiver_of audience.entry) (map string_bytes words.now) }
-{
-    let (now, leeway) = times_in(at, leeway)?;
-    let needed = needed_in(words)?;
-    Some(TokenArguments {
+    let now = now_in(line.value("--at"))?;
+    let leeway = leeway_in(line.value("--leeway"))?;
+    let audience = audience_in(line.has("--any-aud"), line.value("--aud"))?;
+    Ok(TokenArguments {
         earliest: now as i64 - leeway as i64,
         latest: now as i64 + leeway as i64,
-        issuer,
+        issuer: line.value("--iss"),
         audience,
-        needed,
+        needed: needed_in(line),
     })
 }
 
-/// The arguments `--at SECONDS [--leeway SECONDS] [--iss ISS] [--aud AUD | --any-aud]
-/// [--need CLAIM..]`, in this order; `None` if they are others.
-pub(crate) fn token_arguments(words: &[String]) -> Option<TokenArguments<'_>>
-    ensures { option_map token_view result ≡ spec.token_arguments (map string_bytes words.now) }
+/// Whether one of the terms is there.
+pub(crate) fn has_terms(line: CommandLine<'_>) -> bool
+    ensures { result ≡ spec.has_terms (line_view line.entry) }
 {
-    let (at, rest) = option_in("--at", words);
-    let (leeway, rest) = option_in("--leeway", rest);
-    let (issuer, rest) = option_in("--iss", rest);
-    let (audience, rest) = audience_in(rest);
-    by_words(at, leeway, issuer, audience, rest)
+    line.value("--at").is_some()
+        || line.value("--leeway").is_some()
+        || line.value("--iss").is_some()
+        || line.value("--aud").is_some()
+        || line.has("--any-aud")
+        || line.last_words().is_some()
+}
+
+/// Which tokens pass, if items have to be tokens.
+///
+/// # Errors
+/// What is wrong with the words.
+pub(crate) fn token_in<'a>(line: CommandLine<'a>) -> Result<Option<TokenArguments<'a>>, Wrong<'a>>
+    ensures { MatchResult result
+        (λ t. spec.token_in (line_view line.entry) ≡ Ok (option_map token_view t))
+        (λ w. spec.token_in (line_view line.entry) ≡ Err (wrong_view w)) }
+{
+    if line.has("--cwt") {
+        return Ok(Some(terms_in(line)?));
+    }
+    if has_terms(line) {
+        return Err(Wrong::Says("--cwt is missing: what is asked of tokens is for it"));
+    }
+    Ok(None)
 }
 
 /// A claim by its name.

@@ -1,95 +1,81 @@
-//! What is said of other arguments than a program's own.
-ghost use Rattle.std.specs.Prelude.{true};
-ghost use Rattle.cose_gate_command.specs.RunLines.{AddsReasons};
+//! What is said of wrong arguments.
+ghost use Rattle.std.specs.Prelude.{◌≡◌};
+ghost use Rattle.std.specs.List.{list_all};
+ghost use Rattle.cose_gate_command.specs.CommandLine.{wrong_view};
+ghost use Rattle.cose_gate_command.specs.KeyFiles.{indented};
+ghost use Rattle.cose_gate_command.specs.Usage as spec;
+ghost use Rattle.cose_gate_program.specs.Writing.{HandedOn, Wrote};
 
-use crate::arguments::is_option;
-use crate::key_file::put_word;
-use crate::more::write_more;
+use crate::command_line::Wrong;
+use crate::more::write_indented;
+use crate::starting::write;
 use ciborium_ll::Write;
 use cose_gate_program::hand_on;
-use cose_reasons::Page;
-use std::alloc::Global;
-use std::fmt;
 
-/// The arguments of a program.
-#[derive(Clone, Copy)]
-pub struct Takes<'a> {
+/// Wrong arguments of a program.
+#[derive(Debug, Clone, Copy, PartialEq, Eq)]
+pub struct Usage<'a> {
+    /// The first line.
+    pub line: &'a str,
     /// The name of the program.
     pub program: &'a str,
-    /// Its options that have no word after them; or, as `--need`, all words.
-    pub options: &'a [&'a str],
-    /// Its options that have one.
-    pub named: &'a [&'a str],
-    /// What is said if there is no other word; nothing, if none has to be there.
-    pub first: &'a str,
-    /// How many other words there are at most.
-    pub most: usize,
+    /// What is wrong.
+    pub wrong: Wrong<'a>,
 }
 
-/// Says what is wrong with arguments that aren't those of a program, if it is seen, and flushes the
-/// writer. Arguments that can't be read are none. Out of memory it may say less.
-pub fn say_wrong<W: Write>(alloc: Global, words: Option<&[String]>, takes: &Takes<'_>, out: &mut W)
-    ensures { AddsReasons W.Write true out.old out.new }
+/// Writes the usage, what is wrong with the arguments, and where all options are, and flushes the
+/// writer. A fault of the writer is ignored.
+pub fn say_wrong<E: Write>(usage: Usage<'_>, err: &mut E)
+    ensures said { Wrote E.Write err.old err.new (spec.lines_of usage.entry) }
+    ensures handed { HandedOn E.Write err.old err.new }
 {
-    let mut text = String::new(alloc);
-    put_wrong(words, takes, &mut Page::new(&mut text));
-    write_more(text.as_str(), "", out);
-    write_more(takes.program, " --help has all options", out);
-    hand_on(out);
+    write(usage.line, err);
+    write_wrong(usage.wrong, err);
+    write_indented(usage.program, " --help has all options", err);
+    hand_on(err);
 }
 
 /// Writes what is wrong with arguments.
-fn put_wrong<P: fmt::Write>(words: Option<&[String]>, takes: &Takes<'_>, page: &mut Page<'_, P>) {
-    match words {
-        Some(words) => put_fault(words, takes, page),
-        None => page.write_str("an argument isn't UTF-8"),
-    }
-}
-
-/// Writes what is wrong with these: an option that there isn't, or one without its word, or the
-/// number of other words.
-fn put_fault<P: fmt::Write>(words: &[String], takes: &Takes<'_>, page: &mut Page<'_, P>) {
-    let mut others = 0usize;
-    let mut last = "";
-    let mut waiting = "";
-    for word in words {
-        let word = word.as_str();
-        if !waiting.is_empty() {
-            waiting = "";
-        } else if !is_option(word) {
-            others = others.saturating_add(1);
-            if others > takes.most && last.is_empty() {
-                last = word;
-            }
-        } else if is_among(word, takes.named) {
-            waiting = word;
-        } else if !is_among(word, takes.options) {
-            put_word(word, page);
-            page.write_str(why_not(word));
-            return;
-        } else if word == "--need" {
-            break;
+fn write_wrong<E: Write>(wrong: Wrong<'_>, err: &mut E)
+    ensures { Wrote E.Write err.old err.new
+        (indented (spec.wrong_text (wrong_view wrong.entry))) }
+{
+    match wrong {
+        Wrong::NoOption(word) => {
+            write_indented(visible_or("an option", word), ": no such option", err);
         }
-    }
-    if !waiting.is_empty() {
-        put_word(waiting, page);
-        page.write_str(": no word is after it");
-    } else if others == 0 {
-        page.write_str(takes.first);
-    } else if others > takes.most {
-        put_word(last, page);
-        page.write_str(" is one word too many");
-    }
-}
-
-/// What is wrong with an option that isn't one of a run.
-fn why_not(word: &str) -> &'static str {
-    match word {
-        "-h" | "--help" | "--version" => " is given alone",
-        _ => ": no such option",
+        Wrong::NoWord(word) => {
+            write_indented(visible_or("an option", word), ": no word is after it", err);
+        }
+        Wrong::Twice(word) => {
+            write_indented(visible_or("an option", word), " is there twice", err);
+        }
+        Wrong::TooMany(word) => {
+            write_indented(visible_or("a word", word), " is one word too many", err);
+        }
+        Wrong::Says(text) => write_indented(text, "", err),
     }
 }
 
-fn is_among(word: &str, options: &[&str]) -> bool {
-    options.iter().any(|option| *option == word)
+/// The word as a line has it: the other in its place if it is empty, or has characters that aren't
+/// visible ASCII or blanks, which could steer a terminal, or look like another line.
+pub fn visible_or<'a>(other: &'a str, word: &'a str) -> &'a str
+    ensures { result.now ≡ spec.visible_or other.now word.now }
+{
+    if word.is_empty() {
+        return other;
+    }
+    if is_visible(word) { word } else { other }
+}
+
+fn is_visible(text: &str) -> bool
+    ensures { result ≡ list_all spec.is_visible text.now }
+{
+    text.as_bytes().iter().all(|byte| is_seen(*byte))
+}
+
+fn is_seen(byte: u8) -> bool
+    ensures { result ≡ spec.is_visible byte }
+{
+    matches!(byte, b' '..=b'~')
 }

@@ -57,9 +57,10 @@ fn kept_by(quiet: bool, summary: bool) -> Items
 }
 
 /// As `run_with` of `cose_gate_program`; if it is verbose, after each line on `err` what is said
-/// more, in lines that begin with two blanks: of a refusal what it means, and why the judge said
-/// no; of a stop the number and the offset of the item, what is wrong with it, and what to do; of
-/// KEYS its name, and what is wrong with it. Else a line says of KEYS alone what is wrong with it.
+/// more, in lines that begin with two blanks: of an item that passed by which algorithm and under
+/// which key, of a refusal what it means, and why the judge said no; of a stop the number and the
+/// offset of the item, what is wrong with it, and what to do; of KEYS its name, and what is wrong
+/// with it. Else a line says of KEYS alone what is wrong with it.
 /// If it is quiet, an item that passed has no line, and in a summary no item has one. `file` tells
 /// of the file KEYS. All are one run over one type of reader, judge and teller: with two runs the
 /// compiler would no longer put what both call into one function, and each message would take up to
@@ -84,7 +85,9 @@ pub(crate) fn run_asked<'f, 'd, R: Read, W: Write, E: Write>(
     ensures handed { result < 2 → W.held out.new ≡ [] }
     ensures lines { result < 2 → HandedOn E.Write err.old err.new }
 {
-    let note = RefCell::new(Note::new(alloc, asked.verbose));
+    let mut note = Note::new(alloc, asked.verbose);
+    note.is_quiet = asked.quiet;
+    let note = RefCell::new(note);
     let taken = Cell::new(0);
     let sources = Sources {
         note: &note,

@@ -1,7 +1,7 @@
 //! A copy of bytes in which secrets of keys are blank.
 use crate::look::Look;
 use crate::search::spans_of;
-use cbor_diag::{Event, NotWritten, Span, Step, View, Walk, Why, head_of};
+use cbor_diag::{Event, NotWritten, Role, Span, Step, View, Walk, Why, head_of};
 use ciborium_ll::Header;
 use cose_mask::{Blank, masked};
 use std::alloc::Global;
@@ -49,7 +49,7 @@ pub fn mask(alloc: Global, look: Look, bytes: &[u8]) -> Result<Masked, NotWritte
 /// of the bytes.
 fn blanks_of(alloc: Global, bytes: &[u8], spans: &[Span]) -> Result<Vec<Blank>, NotWritten> {
     let mut blanks = Vec::new(alloc);
-    let mut walk = Walk::over_heads(alloc);
+    let mut walk = Walk::over_heads(alloc, Role::Plain);
     for span in spans {
         walk.restart();
         add_blanks(bytes, *span, &mut walk, &mut blanks)?;

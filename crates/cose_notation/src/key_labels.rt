@@ -1,7 +1,7 @@
 //! Labels of keys: their names, and whether their values may be shown.
 use crate::names::key_parameter;
 use crate::parts::{header_of, integer};
-use cbor_diag::head_of;
+use cbor_diag::Bignum;
 use ciborium_ll::Header;
 use cose_iana::{
     AkpKeyParameter, Ec2KeyParameter, EnumI64, HssLmsKeyParameter, KeyType, OkpKeyParameter,
@@ -71,17 +71,12 @@ impl Label {
 /// The number that a bignum is, if it has a stated length and of its bytes no more than the last 7
 /// aren't 0.
 fn small_bignum(item: &[u8]) -> Option<i64> {
-    let tag = head_of(item).ok()?;
-    let content = item.get(tag.len..)?;
-    let string = head_of(content).ok()?;
-    let Header::Bytes(Some(size)) = string.header else {
-        return None;
-    };
-    let number = small_number(content.get(string.len..)?.get(..size)?)?;
-    match tag.header {
-        Header::Tag(2) => Some(number),
-        Header::Tag(3) => (-1i64).checked_sub(number),
-        _ => None,
+    let bignum = Bignum::of(item)?;
+    let number = small_number(bignum.bytes)?;
+    if bignum.is_negative {
+        (-1i64).checked_sub(number)
+    } else {
+        Some(number)
     }
 }
 

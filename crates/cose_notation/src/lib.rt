@@ -10,7 +10,6 @@ mod look;
 mod message;
 mod names;
 mod parts;
-mod role;
 mod search;
 mod shows;
 mod signs;
@@ -27,5 +26,5 @@ pub use crate::message::{
 pub use crate::names::{algorithm, key_operation, key_type, parameter};
 pub use crate::parts::{Content, Members, entries, integer, is_bytes, items, joined};
 pub use crate::shows::{Done, Entry, Group, Labels, PartIs, Seen, Shows};
-pub use crate::text::{Text, write_len, write_shown};
+pub use crate::text::{Text, write_len, write_shown, write_shown_id};
 pub use cbor_diag::View;

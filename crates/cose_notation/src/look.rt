@@ -4,7 +4,8 @@ use cbor_diag::Style;
 /// How much of an item is shown.
 #[derive(Debug, Clone, Copy, PartialEq, Eq)]
 pub struct Look {
-    /// Strings of more than 64 bytes are shown whole.
+    /// Strings of more than 64 bytes are shown whole, bignums as numbers, and what is known to hold
+    /// an item as that item.
     pub full: bool,
     /// What may be secret in a key is shown.
     pub secrets: bool,
@@ -21,19 +22,19 @@ impl Look {
 
     /// Notation on several lines.
     pub fn lines(self) -> Style {
-        if self.full {
-            Style::full()
-        } else {
-            Style::full().shortened()
+        Style {
+            lines: true,
+            ..self.line()
         }
     }
 
     /// Notation on one line.
     pub fn line(self) -> Style {
-        if self.full {
-            Style::line()
-        } else {
-            Style::line().shortened()
+        Style {
+            bignums: self.full,
+            embedded: self.full,
+            cut: !self.full,
+            ..Style::line()
         }
     }
 }

@@ -4,9 +4,8 @@ use crate::parts::{
     Members, entries, header_of, integer, is_bytes, is_label, is_null, is_one_item, items, joined,
     tagged,
 };
-use crate::role::{CWT, SELF_DESCRIBED};
 use crate::shows::{Done, Group, Labels, PartIs, Shows, show_entries};
-use cbor_diag::{NotWritten, View};
+use cbor_diag::{CWT, NotWritten, SELF_DESCRIBED, View};
 use ciborium_ll::Header;
 use std::alloc::Global;
 

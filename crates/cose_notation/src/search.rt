@@ -2,10 +2,10 @@
 //! hold, and theirs: each byte is read once.
 use crate::key_labels::{KeyPart, Label, key_label};
 use crate::parts::{is_label, joined};
-use crate::role::{Inside, Role, content_role, inside_of};
 use crate::signs::{KeyMap, LOWEST, Signs, is_long_as_key, is_open};
 use cbor_diag::{
-    Event, Fault, LevelKind, NotWritten, Place, Span, Step, View, Walk, Why, head_of, item_len,
+    Event, Fault, LevelKind, NotWritten, Place, Role, Span, Step, View, Walk, Why, content_role,
+    head_of, item_len,
 };
 use ciborium_ll::Header;
 use cose_iana::KeyType;
@@ -22,15 +22,6 @@ const STRINGS: usize = 4;
 
 /// What is noted of an end that isn't known yet.
 const UNKNOWN: usize = usize::MAX;
-
-/// An item that is open.
-#[derive(Debug, Clone, Copy, PartialEq, Eq)]
-struct Level {
-    inside: Inside,
-    /// How many items have begun in it.
-    count: usize,
-    kind: LevelKind,
-}
 
 /// A map that is open.
 #[derive(Debug, Clone, Copy, PartialEq, Eq)]
@@ -89,7 +80,7 @@ struct Search<'a> {
     alloc: Global,
     sources: Vec<Source>,
     strings: Vec<OpenString>,
-    levels: Vec<Level>,
+    levels: Vec<Header>,
     maps: Vec<Map>,
     entries: Vec<Entry>,
     sets: Vec<Set>,
@@ -122,10 +113,9 @@ impl<'a> Search<'a> {
             to: self.bytes.len(),
             role,
         })?;
-        let mut walk = Walk::over_heads(self.alloc);
         for number in 0..usize::MAX {
             match self.sources.as_slice().get(number).copied() {
-                Some(source) => self.look_into(&mut walk, source)?,
+                Some(source) => self.look_into(source)?,
                 None => break,
             }
         }
@@ -133,10 +123,10 @@ impl<'a> Search<'a> {
     }
 
     /// Walks over the items of a source, up to the first fault.
-    fn look_into(&mut self, walk: &mut Walk, source: Source) -> Result<(), NotWritten> {
+    fn look_into(&mut self, source: Source) -> Result<(), NotWritten> {
         let bytes = self.bytes;
         let mut from = source.from;
-        walk.restart();
+        let mut walk = Walk::over_heads(self.alloc, source.role);
         for _ in 0..u64::MAX {
             let rest = bytes.get(from..source.to).unwrap_or(&[]);
             if rest.is_empty() {
@@ -197,7 +187,6 @@ impl<'a> Search<'a> {
         if let Event::End(kind) = step.event {
             return self.end(kind, at);
         }
-        let role = self.next_role(source);
         self.place(step, at)?;
         match step.event {
             Event::Body(Header::Bytes(_), size) if size >= LEAST && !is_chunk(step.place) => {
@@ -206,43 +195,27 @@ impl<'a> Search<'a> {
                     at,
                     from,
                     to: from.saturating_add(size),
-                    role: content_role(role),
+                    role: content_role(step.role),
                 })?;
             }
             Event::Begin(header) => {
-                self.begin(header, step.place, role)?;
-                self.note_string(source, header, step.place, role, at)?;
+                self.begin(header, step)?;
+                self.note_string(source, header, step, at)?;
             }
             _ => {}
         }
         Ok(())
     }
 
-    /// What the item is that begins now.
-    fn next_role(&mut self, source: Source) -> Role {
-        match self.levels.as_mut_slice().last_mut() {
-            Some(level) => {
-                let count = level.count;
-                level.count = count.saturating_add(1);
-                level.inside.role_of(count)
-            }
-            None => source.role,
-        }
-    }
-
     /// Opens a level.
-    fn begin(&mut self, header: Header, place: Place, role: Role) -> Result<(), NotWritten> {
-        let is_alone = matches!(place, Place::Top | Place::Value);
-        let is_in_set = self.is_in_set(place);
-        self.levels.push(Level {
-            inside: inside_of(header, role),
-            count: 0,
-            kind: kind_of(header),
-        })?;
+    fn begin(&mut self, header: Header, step: Step) -> Result<(), NotWritten> {
+        let is_alone = matches!(step.place, Place::Top | Place::Value);
+        let is_in_set = self.is_in_set(step.place);
+        self.levels.push(header)?;
         match header {
             Header::Map(_) => self.maps.push(Map {
                 first: self.entries.len(),
-                role,
+                role: step.role,
                 is_alone,
                 is_in_set,
             })?,
@@ -261,15 +234,14 @@ impl<'a> Search<'a> {
         &mut self,
         source: Source,
         header: Header,
-        place: Place,
-        role: Role,
+        step: Step,
         at: usize,
     ) -> Result<(), NotWritten> {
-        if matches!(header, Header::Bytes(_)) && !is_chunk(place) {
+        if matches!(header, Header::Bytes(_)) && !is_chunk(step.place) {
             self.strings.push(OpenString {
                 at,
                 to: source.to,
-                role: content_role(role),
+                role: content_role(step.role),
             })?;
         }
         Ok(())
@@ -523,9 +495,9 @@ impl<'a> Search<'a> {
                 break;
             };
             self.begin_value(at);
-            match level.kind {
-                LevelKind::Map => self.close(source.to, false)?,
-                LevelKind::Array => self.end_set(source.to)?,
+            match level {
+                Header::Map(_) => self.close(source.to, false)?,
+                Header::Array(_) => self.end_set(source.to)?,
                 _ => {}
             }
             let _ = self.levels.pop();
@@ -624,16 +596,6 @@ fn add_strings(alloc: Global, held: &Held, inner: &mut Vec<Held>) -> Result<bool
         inner.push(search.held_in(*string)?)?;
     }
     Ok(!search.hidden.is_empty())
-}
-
-fn kind_of(header: Header) -> LevelKind {
-    match header {
-        Header::Array(_) => LevelKind::Array,
-        Header::Map(_) => LevelKind::Map,
-        Header::Bytes(_) => LevelKind::Bytes,
-        Header::Text(_) => LevelKind::Text,
-        _ => LevelKind::Tag,
-    }
 }
 
 fn is_chunk(place: Place) -> bool {

@@ -4,11 +4,10 @@ use crate::look::Look;
 use crate::message::OuterTags;
 use crate::names::key_operation;
 use crate::parts::{integer, is_bytes, items, joined};
-use crate::role::CWT;
 use crate::shows::{Done, Entry, Group, Labels, PartIs, Seen, Shows};
 use crate::time::claim_time;
 use cbor_diag::{
-    CUT, NotWritten, Page, Style, View, front_text, write_hex, write_text, write_view,
+    CUT, CWT, NotWritten, Page, Style, View, front_text, write_hex, write_text, write_view,
 };
 use std::alloc::Global;
 use std::fmt;
@@ -49,6 +48,47 @@ pub fn write_shown<P: fmt::Write>(
     if write_view(alloc, item, style, level, page) == Err(NotWritten::Memory) {
         page.note(NotWritten::Memory);
     }
+}
+
+/// Writes which key, by its id in hex, and as a text if it is one. No more than 64 bytes are shown,
+/// unless it is to be shown whole, and none if an item in it is hidden.
+pub fn write_shown_id<P: fmt::Write>(id: View<'_>, whole: bool, page: &mut Page<'_, P>) {
+    if id.is_empty() {
+        page.write_str("the key without an id");
+        return;
+    }
+    if id.holds_hidden() {
+        page.write_str("...");
+        return;
+    }
+    page.write_str("h'");
+    if !whole && id.len() > CUT {
+        write_hex(id.front(CUT).bytes(), page);
+        page.write_str("'...");
+        return;
+    }
+    write_hex(id.bytes(), page);
+    page.write_str("'");
+    write_in_brackets(id, whole, page);
+}
+
+/// Writes bytes as a text in brackets, if they are one.
+fn write_in_brackets<P: fmt::Write>(bytes: View<'_>, whole: bool, page: &mut Page<'_, P>) {
+    if let Some(text) = plain_text(bytes) {
+        page.write_str(" (");
+        write_string(text, whole, page);
+        page.write_str(")");
+    }
+}
+
+/// Writes a text, and no more than 64 bytes of it unless it is to be shown whole.
+fn write_string<P: fmt::Write>(text: &str, whole: bool, page: &mut Page<'_, P>) {
+    if whole || text.len() <= CUT {
+        write_text(text, false, page);
+        return;
+    }
+    write_text(front_text(text.as_bytes()), false, page);
+    page.write_str("... (--full shows all)");
 }
 
 impl<'a, P: fmt::Write> Text<'a, P> {
@@ -124,38 +164,6 @@ impl<'a, P: fmt::Write> Text<'a, P> {
             mark = " and ";
         }
         self.page.write_str("\n");
-    }
-
-    /// The id of a key in hex, and as a text if it is one.
-    pub fn id(&mut self, id: View<'_>) {
-        if id.holds_hidden() {
-            self.page.write_str("...");
-            return;
-        }
-        let is_whole = self.look.full || id.len() <= CUT;
-        let shown = if is_whole { id } else { id.front(CUT) };
-        self.page.write_str("h'");
-        write_hex(shown.bytes(), &mut self.page);
-        self.page.write_str(if is_whole { "'" } else { "'..." });
-        self.in_brackets(id);
-    }
-
-    /// Bytes as a text in brackets, if they are one.
-    fn in_brackets(&mut self, bytes: View<'_>) {
-        if let Some(text) = plain_text(bytes) {
-            self.page.write_str(" (");
-            self.text(text);
-            self.page.write_str(")");
-        }
-    }
-
-    fn text(&mut self, text: &str) {
-        if self.look.full || text.len() <= CUT {
-            write_text(text, false, &mut self.page);
-            return;
-        }
-        write_text(front_text(text.as_bytes()), false, &mut self.page);
-        self.page.write_str("... (--full shows all)");
     }
 
     /// The notation of an item, which may go on over several lines.
@@ -239,7 +247,7 @@ impl<'a, P: fmt::Write> Text<'a, P> {
         }
         if entry.is_id() && is_bytes(value.bytes()) {
             let id = joined(self.alloc, value)?;
-            self.in_brackets(id.view());
+            write_in_brackets(id.view(), self.look.full, &mut self.page);
         }
         Ok(())
     }
@@ -271,7 +279,7 @@ impl<'a, P: fmt::Write> Text<'a, P> {
             self.page.write_str(", not shown (--secrets shows them)");
         } else if let Some(text) = plain_text(payload) {
             self.page.write_str(", text: ");
-            self.text(text);
+            write_string(text, self.look.full, &mut self.page);
             // One of a byte is hardly meant as an item.
             if is_item && payload.len() > 1 {
                 self.page.write_str("\n      also CBOR: ");

@@ -1,14 +1,14 @@
 //! Why the judge of the program `cose-gate` says no to a COSE_Mac0.
 use crate::keys::KeyBook;
 use crate::stop::Stop;
-use cbor_diag::{CUT, Page, front_text, write_hex, write_text};
+use cbor_diag::{CUT, Page, front_text, write_text};
 use cose_gate_core::{
     Algorithm, Header, ProtectedHeader, RegisteredLabel, RegisteredLabelWithPrivate,
 };
 use cose_gate_program::{alg_is_hmac, fits, secret_of};
 use cose_hmac::{hmac_sha256, same_tag};
 use cose_iana::EnumI64;
-use cose_notation::{View, algorithm, key_type, mask, parameter, write_len};
+use cose_notation::{algorithm, key_type, mask, parameter, write_len, write_shown_id};
 use cose_rules::{Layer, allows, are_understood, id_in, is_type};
 use coset_keys::CoseKey;
 use coset_labels::KeyType;
@@ -66,12 +66,8 @@ struct Id<'a> {
 /// A question about a COSE_Mac0.
 #[derive(Clone, Copy)]
 pub struct Question<'a> {
-    /// Its protected header.
-    pub protected: &'a ProtectedHeader,
-    /// Its unprotected header.
-    pub unprotected: &'a Header,
-    /// Whether its key id isn't shown, whatever it is.
-    pub hides_id: bool,
+    /// Its headers.
+    pub headers: Headers<'a>,
     /// The bytes that its tag covers.
     pub covered: &'a [u8],
     /// Its tag.
@@ -104,12 +100,7 @@ fn write_reason<P: fmt::Write>(
     question: Question<'_>,
     page: &mut Page<'_, P>,
 ) -> bool {
-    let headers = Headers {
-        protected: question.protected,
-        unprotected: question.unprotected,
-        hides_id: question.hides_id,
-    };
-    match secret_or_reason(book, headers, page) {
+    match secret_or_reason(book, question.headers, page) {
         Some(secret) => {
             let whole = hmac_sha256(secret.bytes, question.covered);
             write_wrong_tag(
@@ -131,15 +122,17 @@ pub struct Secret<'a> {
     pub bytes: &'a [u8],
     /// Whether another key has the id of this one.
     pub is_shared: bool,
+    /// The id.
+    pub id: &'a [u8],
 }
 
 /// The secret under which a judge by these keys verifies the tag of a COSE_Mac0 with these headers;
 /// none if it says no whatever the tag is, and then the first reason is written.
-pub fn secret_or_reason<'b, P: fmt::Write>(
-    book: &'b KeyBook<'_>,
+pub fn secret_or_reason<'k, P: fmt::Write>(
+    book: &KeyBook<'k>,
     headers: Headers<'_>,
     page: &mut Page<'_, P>,
-) -> Option<Secret<'b>> {
+) -> Option<Secret<'k>> {
     let (protected, unprotected) = (headers.protected, headers.unprotected);
     if !alg_is_hmac(protected) {
         write_other_alg(&protected.header.alg, &unprotected.alg, page);
@@ -159,9 +152,11 @@ pub fn secret_or_reason<'b, P: fmt::Write>(
         return None;
     };
     if fits(held.key, id.bytes) {
-        let bytes = secret_of(held.key)?;
-        let is_shared = held.is_shared;
-        return Some(Secret { bytes, is_shared });
+        return Some(Secret {
+            bytes: secret_of(held.key)?,
+            is_shared: held.is_shared,
+            id: held.key.key_id.as_slice(),
+        });
     }
     write_key_id(book, id, page);
     write_bar(held.key, page);
@@ -279,7 +274,7 @@ fn write_no_key<P: fmt::Write>(book: &KeyBook<'_>, id: Id<'_>, page: &mut Page<'
     }
 }
 
-/// A key id, of which no more than 64 bytes are shown, and none if a secret of a key is in it.
+/// Writes a key id, and nothing of it if a secret of a key is in it.
 fn write_id<P: fmt::Write>(book: &KeyBook<'_>, id: Id<'_>, page: &mut Page<'_, P>) {
     let (alloc, look) = (book.alloc(), book.look());
     if id.bytes.is_empty() {
@@ -287,18 +282,17 @@ fn write_id<P: fmt::Write>(book: &KeyBook<'_>, id: Id<'_>, page: &mut Page<'_, P
     } else if id.is_hidden {
         page.write_str("...");
     } else if let Some(masked) = page.kept(mask(alloc, look, id.bytes)) {
-        write_shown_id(masked.view(), page);
+        write_shown_id(masked.view(), look.full, page);
     }
 }
 
-fn write_shown_id<P: fmt::Write>(id: View<'_>, page: &mut Page<'_, P>) {
-    if id.holds_hidden() {
-        page.write_str("...");
-        return;
+/// Writes by which algorithm, and under the key with which id, a message passes.
+pub fn write_key<P: fmt::Write>(book: &KeyBook<'_>, id: &[u8], page: &mut Page<'_, P>) {
+    let (alloc, look) = (book.alloc(), book.look());
+    page.write_str("HMAC 256/256, ");
+    if let Some(masked) = page.kept(mask(alloc, look, id)) {
+        write_shown_id(masked.view(), look.full, page);
     }
-    page.write_str("h'");
-    write_hex(id.front(CUT).bytes(), page);
-    page.write_str(if id.len() > CUT { "'..." } else { "'" });
 }
 
 fn write_key_id<P: fmt::Write>(book: &KeyBook<'_>, id: Id<'_>, page: &mut Page<'_, P>) {

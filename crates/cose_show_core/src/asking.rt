@@ -3,7 +3,7 @@ use crate::gated::{Comparing, gate_item};
 use cose_gate_core::{Asked, CoseError, MessageKind, Refusal, Verdict};
 use cose_gate_program::{CoseKeySet, HmacJudge};
 use cose_notation::{Look, Masked, mask};
-use cose_reasons::{KeyBook, OTHER_KIND, Question, Stop, reason};
+use cose_reasons::{Headers, KeyBook, OTHER_KIND, Question, Stop, reason};
 use cose_rules::{Layer, id_in};
 use coset_labels::TaggedCborSerializable;
 use coset_maced::CoseMac0;
@@ -92,9 +92,11 @@ fn why_not(
         return Ok(String::new(alloc));
     };
     let question = Question {
-        protected: &message.protected,
-        unprotected: &message.unprotected,
-        hides_id: id_of(&message) != shown.as_slice(),
+        headers: Headers {
+            protected: &message.protected,
+            unprotected: &message.unprotected,
+            hides_id: id_of(&message) != shown.as_slice(),
+        },
         covered: first.structure.as_slice(),
         tag: message.tag.as_slice(),
         aad_len: aad.len(),

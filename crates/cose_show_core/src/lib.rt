@@ -8,7 +8,6 @@ mod decoding;
 mod gated;
 mod lines;
 mod looks;
-mod meaning;
 mod object;
 mod printer;
 mod said;

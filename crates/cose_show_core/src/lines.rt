@@ -1,11 +1,11 @@
 //! An item as lines of text.
 use crate::asking::Answer;
-use crate::meaning::{write_fault, write_refusal};
 use crate::said::{Said, Says, around};
 use crate::verdict::{Difference, UNTAGGED};
 use cbor_diag::Page;
-use cose_gate_core::MessageKind;
-use cose_notation::{Done, Text, View, is_message, write_len};
+use cose_gate_core::{GateFault, MessageKind};
+use cose_notation::{Done, Text, View, is_message, write_len, write_shown_id};
+use cose_reasons::{write_damage, write_refusal};
 use std::fmt;
 
 impl<'a, P: fmt::Write> Says for Text<'a, P> {
@@ -37,12 +37,14 @@ impl<'a, P: fmt::Write> Says for Text<'a, P> {
             Said::Answer(Answer::Yes(id)) => {
                 page.write_str("  check: the MAC is good");
                 if let Some(id) = id {
-                    write_key(id.view(), self);
+                    page.write_str(", under ");
+                    write_shown_id(id.view(), self.look.full, page);
                 }
-                self.page.write_str("\n");
+                page.write_str("\n");
             }
             Said::Refused(refusal) => {
-                page.write_str("  check: refused: ");
+                let name = refusal.name();
+                write!(page, "  check: refused: {name}: ");
                 write_refusal(refusal, page);
                 page.write_str("\n");
             }
@@ -55,7 +57,9 @@ impl<'a, P: fmt::Write> Says for Text<'a, P> {
             }
             Said::Stops(fault) => {
                 page.write_str("  check: cose-gate stops at this item: ");
-                write_fault(fault, page);
+                if let GateFault::Decode(error) = fault {
+                    write_damage(error, page);
+                }
                 page.write_str("\n");
             }
             Said::Part(wrong) => {
@@ -106,16 +110,6 @@ impl<'a, P: fmt::Write> Says for Text<'a, P> {
         }
         self.page.end()
     }
-}
-
-/// Writes under which key, by its id.
-fn write_key<P: fmt::Write>(id: View<'_>, to: &mut Text<'_, P>) {
-    if id.is_empty() {
-        to.page.write_str(", under the key without an id");
-        return;
-    }
-    to.page.write_str(", under ");
-    to.id(id);
 }
 
 /// Writes what isn't checked of a message that may pass, and what does check it.

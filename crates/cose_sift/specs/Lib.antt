@@ -1,3 +1,4 @@
+pub mod Arguments
 pub mod Taking
 pub mod Reading
 pub mod Untagging

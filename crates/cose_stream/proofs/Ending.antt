@@ -13,7 +13,8 @@ use Rattle.cose_gate.specs.GateFault.TheVariants as gating
 use Rattle.coset_labels.specs.Limits.{nesting, layers}
 use Rattle.cose_gate.specs.Questions.{Question}
 use Rattle.cose_gate.specs.Reading.{IfKnown}
-use Rattle.cose_gate.specs.Streaming.{CopiedBy, CopiedPart, TellsFault, IsLongFor, Unstreamed, UnstreamedBy, WritesAll, Why, damaged, untagged, tagged, shape, without_payload, without_length}
+use Rattle.cose_gate.specs.StreamFaults.{Why, damaged, untagged, tagged, shape, without_payload, without_length, TellsFault, IsLongFor}
+use Rattle.cose_gate.specs.Streaming.{CopiedBy, CopiedPart, UnstreamedBy, WritesAll}
 use Rattle.cose_gate.specs.Faults.{fault_of}
 use Rattle.cose_gate.specs.declared.fault.StreamFault.{StreamFault}
 use Rattle.cose_gate.specs.declared.fault.StreamFault.TheVariants as fault
@@ -50,25 +51,25 @@ part_usually w out out' levels layers' from l n y is c =
     (subst (λ (z : ℕ). CopiedPart (within nesting z false) w out out' from) y (subst (λ (z : ℕ). CopiedPart (within z layers' false) w out out' from) n c))
 
 module _ {W F : Type 0} (allows : Question → Bool) (aad : List ℕ) (w : Writing W F) (out out' : W) where
-  stops_at : {E : Type 0} (ends : E → Bool) (l : Option (List ℕ)) (f : StreamFault E) → CopiedPart usual w out out' l → IfKnown l (λ b. TellsFault ends (Unstreamed (0 + length b) b) (IsLongFor 4096 0 b) f)
+  stops_at : {E : Type 0} (ends : E → Bool) (l : Option (List ℕ)) (f : StreamFault E) → CopiedPart usual w out out' l → IfKnown l (λ b. TellsFault ends (UnstreamedBy usual (0 + length b) b) (IsLongFor 4096 0 b) f)
       → StreamEnds allows aad l w out out' (Err (stopped_by ends f))
   stops_at ends l (fault.Decode e) p k = (
-    known_as l _ _ (λ b t. subst (λ (n : ℕ). TellsFault is_end (Unstreamed n b) (IsLongFor 4096 0 b) (fault.Decode (error_of ends e))) (zero-add (length b)) (told_small ends (Unstreamed (0 + length b) b) (IsLongFor 4096 0 b) e t)) k,
+    known_as l _ _ (λ b t. subst (λ (n : ℕ). TellsFault is_end (UnstreamedBy usual n b) (IsLongFor 4096 0 b) (fault.Decode (error_of ends e))) (zero-add (length b)) (told_small ends (UnstreamedBy usual (0 + length b) b) (IsLongFor 4096 0 b) e t)) k,
     p,
   )
-  stops_at ends l fault.NotTagged p k = (known_as l _ _ (λ b t. (untagged, refl, subst (λ (n : ℕ). Unstreamed n b untagged) (zero-add (length b)) t)) k, p, tt)
-  stops_at ends l (fault.OtherTag n) p k = (known_as l _ _ (λ b t. (tagged n, (n, refl), subst (λ (m : ℕ). Unstreamed m b (tagged n)) (zero-add (length b)) t)) k, p, tt)
-  stops_at ends l (fault.Shape e) p k = (known_as l _ _ (λ b t. (shape (fault_of e), (fault_of e, refl), subst (λ (n : ℕ). Unstreamed n b (shape (fault_of e))) (zero-add (length b)) t)) k, p, tt)
-  stops_at ends l fault.Detached p k = (known_as l _ _ (λ b t. (without_payload, refl, subst (λ (n : ℕ). Unstreamed n b without_payload) (zero-add (length b)) t)) k, p, tt)
-  stops_at ends l fault.Unsized p k = (known_as l _ _ (λ b t. (without_length, refl, subst (λ (n : ℕ). Unstreamed n b without_length) (zero-add (length b)) t)) k, p, tt)
+  stops_at ends l fault.NotTagged p k = (known_as l _ _ (λ b t. (untagged, refl, subst (λ (n : ℕ). UnstreamedBy usual n b untagged) (zero-add (length b)) t)) k, p, tt)
+  stops_at ends l (fault.OtherTag n) p k = (known_as l _ _ (λ b t. (tagged n, (n, refl), subst (λ (m : ℕ). UnstreamedBy usual m b (tagged n)) (zero-add (length b)) t)) k, p, tt)
+  stops_at ends l (fault.Shape e) p k = (known_as l _ _ (λ b t. (shape (fault_of e), (fault_of e, refl), subst (λ (n : ℕ). UnstreamedBy usual n b (shape (fault_of e))) (zero-add (length b)) t)) k, p, tt)
+  stops_at ends l fault.Detached p k = (known_as l _ _ (λ b t. (without_payload, refl, subst (λ (n : ℕ). UnstreamedBy usual n b without_payload) (zero-add (length b)) t)) k, p, tt)
+  stops_at ends l fault.Unsized p k = (known_as l _ _ (λ b t. (without_length, refl, subst (λ (n : ℕ). UnstreamedBy usual n b without_length) (zero-add (length b)) t)) k, p, tt)
   stops_at ends l fault.Memory p k = p
 
   pub stops : {E : Type 0} (ends : E → Bool) (levels layers' : ℕ) (from l : Option (List ℕ)) (o : ℕ) (f : StreamFault E) → levels ≡ nesting → layers' ≡ layers → from ≡ l → o ≡ 0
       → Names ends (UnstreamedBy (within levels layers' false)) 4096 from o f → CopiedPart (within levels layers' false) w out out' from → StreamEnds allows aad l w out out' (Err (stopped_by ends f))
   stops ends levels layers' from l o f n y is start by part =
       let usually = subst (λ (z : ℕ). Names ends (UnstreamedBy (within nesting z false)) 4096 from o f) y (subst (λ (z : ℕ). Names ends (UnstreamedBy (within z layers' false)) 4096 from o f) n by) in
-      let whole = subst (λ (z : Option (List ℕ)). Names ends Unstreamed 4096 z o f) is usually in
-      stops_at ends l f (part_usually w out out' levels layers' from l n y is part) (subst (λ (z : ℕ). Names ends Unstreamed 4096 l z f) start whole).1
+      let whole = subst (λ (z : Option (List ℕ)). Names ends (UnstreamedBy usual) 4096 z o f) is usually in
+      stops_at ends l f (part_usually w out out' levels layers' from l n y is part) (subst (λ (z : ℕ). Names ends (UnstreamedBy usual) 4096 l z f) start whole).1
 
   -- the input couldn't be read on after a message
   pub reads_no_more : (l : Option (List ℕ)) (at : ℕ) (f : StreamStop) → IfKnown l (λ b. at ≤ length b) → CopiedPart usual w out out' l → IsNoEnd at f → StreamEnds allows aad l w out out' (Err f)

@@ -1,14 +1,12 @@
--- The lines and the status of an end, and those of wrong arguments.
-use Rattle.std.specs.Prelude.{ℕ, List, [], ◌++◌, length, Option, None, Some, Bool, true, false, Result, Ok, Err, codes, nat_eq, nat_le, ◌&&◌, if◌then◌else◌}
-use Rattle.std.specs.List.{list_all}
+-- The lines and the status of an end.
+use Rattle.std.specs.Prelude.{ℕ, List, [], ◌++◌, Option, None, Some, Bool, true, false, Result, Ok, Err, codes, nat_eq, if◌then◌else◌}
 use Rattle.ciborium_ll.specs.declared.write.Write.{Ghosts as Writes}
 use Rattle.cose_gate_program.specs.Beginning.{status_of}
 use Rattle.cose_gate_program.specs.Lines.{not_begun_line, stopped_line}
 use Rattle.cose_gate_program.specs.Writing.{Wrote}
 use Rattle.cose_gate_command.specs.KeyFiles.{indented, reason_line}
 use Rattle.cose_gate_command.specs.RunLines.{AreIndented}
-use Rattle.cose_stream.specs.declared.arguments.WrongArguments.{WrongArguments}
-use Rattle.cose_stream.specs.declared.arguments.WrongArguments.TheVariants as wrong
+use Rattle.cose_gate_command.specs.Usage.{visible_or}
 use Rattle.cose_stream.specs.declared.under.NoFile.{NoFile}
 use Rattle.cose_stream.specs.declared.under.NoFile.TheVariants as none
 use Rattle.cose_stream.specs.declared.stop.StreamRefusal.{StreamRefusal}
@@ -24,17 +22,6 @@ refused_line refusal.Detached = codes "refused: Detached\n"
 refused_line refusal.Unsized = codes "refused: Unsized\n"
 refused_line refusal.Judged = codes "refused: Judged\n"
 refused_line refusal.ExtraneousData = codes "refused: ExtraneousData\n"
-
--- a character of ASCII that is seen, or a blank
-abbrev pub is_visible : ℕ → Bool
-is_visible c = nat_le 32 c && nat_le c 126
-
--- a word as a line has it: itself; or another if it is empty, or has other characters, which could
--- steer a terminal
-abbrev pub visible_or : List ℕ → List ℕ → List ℕ
-visible_or other word =
-    if nat_eq (length word) 0 then other
-    else if list_all is_visible word then word else other
 
 -- the name of FILE as a line has it
 abbrev pub file_name : Option (List ℕ) → List ℕ
@@ -81,24 +68,6 @@ SaysEnd w true fault keys payload end others old new =
     (said : List ℕ) × (AreIndented said × Wrote w old new (end_line end ++ said))
 SaysEnd w false fault keys payload end others old new = Wrote w old new
     (end_line end ++ (why_line fault keys payload end ++ others_line payload others))
-
--- the line that says what is wrong with arguments
-abbrev pub wrong_line : WrongArguments → List ℕ
-wrong_line (wrong.NoOption w) =
-    indented (visible_or (codes "an option") w.now ++ codes ": no such option with --stream")
-wrong_line wrong.NoStream = indented (codes "--payload is for --stream")
-wrong_line wrong.NoFile = indented (codes "FILE is missing after --payload")
-wrong_line (wrong.SecondFile w) =
-    indented (visible_or (codes "a word") w.now ++ codes " is one FILE too many")
-wrong_line wrong.NoKeys =
-    indented (codes "KEYS is missing: a file with a key set, which cose-key makes")
-wrong_line (wrong.TooMany w) = indented (visible_or (codes "a word") w.now
-    ++ codes " is one word too many: the message is read from standard input")
-
--- the lines of wrong arguments
-abbrev pub wrong_lines : WrongArguments → List ℕ
-wrong_lines why = codes "usage: cose-gate KEYS [AADHEX]\n"
-    ++ (wrong_line why ++ indented (codes "cose-gate --help has all options"))
 
 abbrev pub end_status : Result (Unit {0}) StreamStop → ℕ
 end_status (Ok u) = 0

@@ -15,7 +15,8 @@ use Rattle.cose_gate.specs.Questions.{Question, MessageFields, questions, payloa
 use Rattle.cose_gate.specs.ReadError.TheVariants as de
 use Rattle.cose_gate.specs.Reading.{IfKnown}
 use Rattle.cose_gate.specs.Stated.{IsSingle, Stated}
-use Rattle.cose_gate.specs.Streaming.{CopiedPart, TellsFault, IsLongFor, Unstreamed, Why, untagged, tagged, shape, without_payload, without_length}
+use Rattle.cose_gate.specs.StreamFaults.{Why, untagged, tagged, shape, without_payload, without_length, TellsFault, IsLongFor}
+use Rattle.cose_gate.specs.Streaming.{CopiedPart, UnstreamedBy}
 use Rattle.cose_gate.specs.Tree.{Tree}
 use Rattle.cose_gate.specs.declared.fault.StreamFault.{StreamFault}
 use Rattle.cose_gate.specs.declared.fault.StreamFault.TheVariants as fault
@@ -67,7 +68,8 @@ pub record IsAnsweredMessage (allows : Question → Bool) (aad : List ℕ) (answ
   pub is_answer : answer ≡ is_none (first_no allows (questions message aad))
 
 -- the bytes begin with such a message, and Q holds of what is after it
-abbrev pub BeginsWithMessage : (Question → Bool) → List ℕ → Bool → Option (List ℕ) → (List ℕ → Type 0)
+abbrev pub BeginsWithMessage : (Question → Bool) → List ℕ → Bool → Option (List ℕ)
+    → (List ℕ → Type 0)
     → Type 0
 BeginsWithMessage allows aad answer left Q =
     (payload front : List ℕ) × IsAnsweredMessage allows aad answer payload front
@@ -84,10 +86,12 @@ IsWhy refusal.Judged why = ⊥
 IsWhy refusal.ExtraneousData why = ⊥
 
 abbrev pub IsRefusedFor : (Question → Bool) → List ℕ → Option (List ℕ) → StreamRefusal → Type 0
-IsRefusedFor allows aad left refusal.Judged = BeginsWithMessage allows aad false left (λ rest. Unit {0})
-IsRefusedFor allows aad left refusal.ExtraneousData = BeginsWithMessage allows aad true left (λ rest. rest ≢ [])
+IsRefusedFor allows aad left refusal.Judged =
+    BeginsWithMessage allows aad false left (λ rest. Unit {0})
+IsRefusedFor allows aad left refusal.ExtraneousData =
+    BeginsWithMessage allows aad true left (λ rest. rest ≢ [])
 IsRefusedFor allows aad left why =
-    IfKnown left (λ b. (w : Why) × IsWhy why w × Unstreamed (length b) b w)
+    IfKnown left (λ b. (w : Why) × IsWhy why w × UnstreamedBy usual (length b) b w)
 
 -- P holds of a refusal after the whole payload was written: only then it is known what the judge
 -- says
@@ -100,7 +104,8 @@ IfWhole why P = Unit {0}
 -- is yes, and its payload was written and is not held back; or what is said of the input is true,
 -- and nothing was written but a beginning of the payload; the output hasn't failed if the judge was
 -- heard. If it failed, the last call may have been a flush, which changes nothing that was written.
-abbrev pub StreamEnds : {W F : Type 0} → (Question → Bool) → List ℕ → Option (List ℕ) → Writing W F → W → W → Result (Unit {0}) StreamStop → Type 0
+abbrev pub StreamEnds : {W F : Type 0} → (Question → Bool) → List ℕ → Option (List ℕ)
+    → Writing W F → W → W → Result (Unit {0}) StreamStop → Type 0
 StreamEnds allows aad left w out out' (Ok u) =
     (payload front : List ℕ) × IsAnsweredMessage allows aad true payload front
     × IfKnown left (λ b. b ≡ front)
@@ -112,7 +117,8 @@ StreamEnds allows aad left w out out' (Err (stop.Refused why)) =
     IsRefusedFor allows aad left why × CopiedPart usual w out out' left
     × IfWhole why (w.failed out' ≡ w.failed out)
 StreamEnds allows aad left w out out' (Err (stop.Stopped (gating.Decode e))) =
-    IfKnown left (λ b. TellsFault is_end (Unstreamed (length b) b) (IsLongFor 4096 0 b) (fault.Decode e))
+    IfKnown left (λ b. TellsFault is_end (UnstreamedBy usual (length b) b) (IsLongFor 4096 0 b)
+    (fault.Decode e))
     × CopiedPart usual w out out' left
 StreamEnds {W = W} allows aad left w out out' (Err (stop.Stopped gating.Write)) =
     (w.failed out' ≡ w.failed out + 1)

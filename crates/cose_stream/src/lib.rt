@@ -11,7 +11,7 @@ mod telling;
 mod under;
 mod usage;
 
-pub use crate::arguments::{StreamArguments, WrongArguments, stream_arguments};
+pub use crate::arguments::{StreamArguments, stream_arguments};
 pub use crate::folder::Folder;
 pub use crate::putting::{StreamEnd, stream_into};
 pub use crate::stop::{StreamRefusal, StreamStop};

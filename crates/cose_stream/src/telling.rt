@@ -9,12 +9,11 @@ ghost use Rattle.cose_stream.specs.Lines.{SaysEnd};
 use crate::putting::StreamEnd;
 use crate::stop::{StreamRefusal, StreamStop};
 use crate::under::NoFile;
-use crate::usage::visible_or;
 use ciborium_ll::Write;
 use cose_gate::{GateFault, InputFault, Notice, write_notice};
 use cose_gate_command::{
-    KeyFile, Note, say_fault, say_keys, say_not_begun, say_reason, write_indented, write_more,
-    write_reason,
+    KeyFile, Note, say_fault, say_keys, say_not_begun, say_reason, visible_or, write_indented,
+    write_more, write_reason,
 };
 use cose_gate_program::hand_on;
 use std::alloc::Global;

@@ -30,4 +30,4 @@ returns-in-Some-token_terms c =
     let needed = rw c.in-Some.is at c.in-Ok.ensures in
     let terms = c.in-Some-token_terms.ensures in
     asks _ _ _ c.args.token _ _ _ _ _ _ (terms_view c.in-Some-token_terms.terms) (record { issuer = terms.0; audience = terms.1; named = needed.0 })
-        (terms.2 (ap (λ z. map label_view z) c.deref.ensures.value ∙ needed.1)) c.ask_items.ensures
+    (terms.2 (ap (λ z. map label_view z) c.deref.ensures.value ∙ needed.1)) c.ask_items.ensures

@@ -1,13 +1,9 @@
-use Rattle.std.proofs.Common.{◌+◌, ◌∷◌, ◌∙◌, map, drop, ap, sym, arith}
-use Rattle.std.specs.Prelude.{string_bytes}
-use Rattle.cose_gate_core.proofs.InOrder.{rest_step}
-use Rattle.cose_gate_command.specs.Options.{after}
+use Rattle.std.proofs.Common.{ap}
+use Rattle.cose_gate_command.specs.Arguments.{gate_in, gate_options, arguments_view}
+use Rattle.cose_gate_command.specs.CommandLine.{line_view, wrong_view, options_view}
+use Rattle.cose_gate_command.proofs.Reading.{matched, read_all}
 use Rattle.cose_gate_command.proofs.arguments.read_arguments.Goals as goal
 
-pub loop-word-preserved : goal.loop-word-preserved
-loop-word-preserved c =
-    let i = c.loop-word.word-index in
-    let more = map string_bytes (drop (i + 1) c.args.all.now) in
-    sym (c.if-not-take.ensures more)
-    ∙ ap (after c.loop-word.words) (ap (λ w. w ∷ more) c.as_str.ensures.value ∙ sym (rest_step string_bytes c.args.all.now i c.word-item.result (omega arith) c.word-item.is))
-    ∙ c.loop-word.invariant
+pub returns-in-Ok : goal.returns-in-Ok
+returns-in-Ok c = matched arguments_view wrong_view c.gate_in.result _ _
+    (read_all _ gate_options gate_in (line_view c.new-line.result) _ (ap options_view c.new-line.ensures.options) c.new-line.ensures.line c.in-Ok.ensures) c.gate_in.ensures

@@ -1,18 +1,10 @@
-use Rattle.std.proofs.Common.{sym, refl}
-use Rattle.std.specs.Prelude.{codes}
-use Rattle.cose_gate_program.proofs.Written.{wrote_then}
+use Rattle.std.proofs.Common.{refl, subst}
+use Rattle.cose_gate_program.specs.Writing.{Wrote}
 use Rattle.cose_gate_command.proofs.command.program.Goals as goal
 
-pub returns-in_default-clause-ran : goal.returns-in_default-clause-ran
-returns-in_default-clause-ran g c =
-    let said = c.say_wrong.ensures in
-    rw (sym c.in_default.ensures) (
-      refl,
-      refl,
-      said.0,
-      said.1,
-      wrote_then g.E.Write _ _ _ (codes "usage: cose-gate KEYS [AADHEX]\n") said.0 c.write.ensures said.2,
-    )
+pub returns-in-Err-clause-ran : goal.returns-in-Err-clause-ran
+returns-in-Err-clause-ran g c =
+    rw c.in-Err.ensures (refl, refl, subst (λ z. Wrote g.E.Write c.args.err.now c.say_wrong.new.err z) c.gate_usage.ensures c.say_wrong.ensures.said)
 
 pub returns-clause-ran : goal.returns-clause-ran
-returns-clause-ran g c = rw (sym c.in-Some.ensures) c.run_asked.ensures.ran
+returns-clause-ran g c = rw c.in-Ok.ensures c.run_asked.ensures.ran

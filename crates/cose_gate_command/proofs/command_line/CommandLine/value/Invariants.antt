@@ -1,0 +1,10 @@
+use Rattle.std.proofs.Common.{◌≡◌, length}
+use Rattle.cose_gate_command.specs.CommandLine as spec
+use Rattle.cose_gate_command.specs.CommandLine.{line_view, options_view}
+use Rattle.cose_gate_command.proofs.command_line.CommandLine.value.Given as goal
+
+abbrev pub invariant-loop-word : goal.invariant-loop-word
+invariant-loop-word l = spec.value_of l.fn.option (line_view l.line) ≡ spec.value_of l.fn.option (line_view l.fn.self)
+
+abbrev pub decreases-loop-word : goal.decreases-loop-word
+decreases-loop-word l = length l.line.words.now
