@@ -101,12 +101,13 @@ pub fn why(to: &mut Out, row: &mut &str) {
     ask(to, &mut judge, &case, MessageKind::Mac0);
     to.yes_or_no(judge.decide(&tag));
     to.text(": ");
+    let headers = Headers {
+        protected: &case.protected,
+        unprotected: &case.unprotected,
+        hides_id: false,
+    };
     let question = Question {
-        headers: Headers {
-            protected: &case.protected,
-            unprotected: &case.unprotected,
-            hides_id: false,
-        },
+        headers,
         covered: case.covered.as_slice(),
         tag: tag.as_slice(),
         aad_len,

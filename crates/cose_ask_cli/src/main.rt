@@ -8,7 +8,7 @@
 
 use ciborium_ll::Io;
 use cose_gate_command::{
-    Content, NOT_UTF8, NotRun, Usage, ask, ask_arguments, ended, open_input, page_for,
+    Content, NOT_UTF8, NotRun, Usage, Wrong, ask, ask_arguments, ended, open_input, page_for,
     read_in_blocks, words_of, write_in_blocks, write_page,
 };
 use cose_gate_program::Blocks;
@@ -66,12 +66,20 @@ fn finish(rt: &HostRuntime, end: Result<u8, NotRun>, words: Option<&[String]>) -
     let usage = Usage {
         line: "usage: cose-ask [AADHEX]\n",
         program: "cose-ask",
-        wrong: match words.map(ask_arguments) {
-            Some(Err(wrong)) => wrong,
-            _ => NOT_UTF8,
-        },
+        wrong: wrong_of(words),
     };
     ExitCode::from(ended(end, usage, &mut Io::new(rt.stderr())))
+}
+
+/// What is wrong with these arguments, or that they can't be read.
+fn wrong_of(words: Option<&[String]>) -> Wrong<'_> {
+    let Some(words) = words else {
+        return NOT_UTF8;
+    };
+    match ask_arguments(words) {
+        Err(wrong) => wrong,
+        Ok(_) => NOT_UTF8,
+    }
 }
 
 /// Runs the program, and returns its status.

@@ -91,12 +91,13 @@ fn why_not(
     let Some(message) = read_message(alloc, item)? else {
         return Ok(String::new(alloc));
     };
+    let headers = Headers {
+        protected: &message.protected,
+        unprotected: &message.unprotected,
+        hides_id: id_of(&message) != shown.as_slice(),
+    };
     let question = Question {
-        headers: Headers {
-            protected: &message.protected,
-            unprotected: &message.unprotected,
-            hides_id: id_of(&message) != shown.as_slice(),
-        },
+        headers,
         covered: first.structure.as_slice(),
         tag: message.tag.as_slice(),
         aad_len: aad.len(),
