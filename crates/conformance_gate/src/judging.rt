@@ -106,13 +106,23 @@ pub fn why(to: &mut Out, row: &mut &str) {
         unprotected: &case.unprotected,
         hides_id: false,
     };
-    let question = Question {
-        headers,
-        covered: case.covered.as_slice(),
-        tag: tag.as_slice(),
-        aad_len,
-    };
+    let question = question_of(headers, case.covered.as_slice(), tag.as_slice(), aad_len);
     add_reason(to, &case.keys, question);
+}
+
+/// The question about this message.
+fn question_of<'a>(
+    headers: Headers<'a>,
+    covered: &'a [u8],
+    tag: &'a [u8],
+    aad_len: usize,
+) -> Question<'a> {
+    Question {
+        headers,
+        covered,
+        tag,
+        aad_len,
+    }
 }
 
 /// Appends why a judge by these keys says no, `-` for no reason.

@@ -96,15 +96,26 @@ fn why_not(
         unprotected: &message.unprotected,
         hides_id: id_of(&message) != shown.as_slice(),
     };
-    let question = Question {
-        headers,
-        covered: first.structure.as_slice(),
-        tag: message.tag.as_slice(),
-        aad_len: aad.len(),
-    };
+    let covered = first.structure.as_slice();
+    let question = question_of(headers, covered, message.tag.as_slice(), aad.len());
     match reason(alloc, book, question)? {
         Some(why) => Ok(why),
         None => Ok(String::new(alloc)),
+    }
+}
+
+/// The question about this message.
+fn question_of<'a>(
+    headers: Headers<'a>,
+    covered: &'a [u8],
+    tag: &'a [u8],
+    aad_len: usize,
+) -> Question<'a> {
+    Question {
+        headers,
+        covered,
+        tag,
+        aad_len,
     }
 }
 
